@@ -1,0 +1,4 @@
+pub mod Members
+pub mod Adding
+pub mod Deciding
+pub mod Escape

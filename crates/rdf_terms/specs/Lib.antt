@@ -1,0 +1,4 @@
+pub mod Lists
+pub mod NTriplesForm
+pub mod Order
+pub mod Same

@@ -1,0 +1,27 @@
+//! RDF terms, and the texts, bytes and lists that public records are made of.
+//!
+//! Promise: contracts see a text or bytes as the list of its bytes, a list as its items, and a term
+//! as data; `==`, the order and each `copy` speak of these alone. The order of terms is in
+//! `specs/Order.antt`.
+//! Not here: which texts are IRIs (`iri_core`), and how solutions are ordered (`expr_eval`).
+//!
+//! Want of memory is `Memory` everywhere; after it every argument that was lent is as before.
+#![tactic(auto)]
+
+mod bytes;
+mod memory;
+mod seq;
+mod term;
+#[cfg(test)]
+mod tests;
+mod text;
+mod triple;
+mod write;
+
+pub use crate::bytes::ByteBuf;
+pub use crate::memory::Memory;
+pub use crate::seq::Seq;
+pub use crate::term::{Term, is_same_term, order_of_terms};
+pub use crate::text::TextBuf;
+pub use crate::triple::{Triple, is_same_triple};
+pub use crate::write::{write_label, write_term};

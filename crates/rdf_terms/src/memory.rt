@@ -1,0 +1,18 @@
+use std::alloc::{AllocError, AllocFailed};
+
+/// Memory ran out. It is the one want of memory of all crates, and has no cause that a contract
+/// could name.
+#[derive(Clone, Copy, Debug, PartialEq, Eq)]
+pub struct Memory;
+
+impl From<AllocError> for Memory {
+    fn from(_: AllocError) -> Self {
+        Memory
+    }
+}
+
+impl<T: Drop> From<AllocFailed<T>> for Memory {
+    fn from(_: AllocFailed<T>) -> Self {
+        Memory
+    }
+}
