@@ -1,0 +1,15 @@
+//! Solutions as text in the SPARQL 1.1 Query Results JSON Format, a row at a time.
+//!
+//! Promise: the head, a row and the tail are exactly the texts of `specs/Results.antt`, so that
+//! what is written in pieces is one whole text.
+//! Not here: which rows are solutions (`algebra_core`), and where a text is written (`outer_ports`).
+#![tactic(auto)]
+
+mod ends;
+mod row;
+mod term;
+#[cfg(test)]
+mod tests;
+
+pub use crate::ends::{head, tail};
+pub use crate::row::row_text;
