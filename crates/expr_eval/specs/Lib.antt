@@ -1,0 +1,6 @@
+pub mod Held
+pub mod Names
+pub mod Order
+pub mod Truth
+pub mod Value
+pub mod Written

@@ -1,0 +1,5 @@
+pub mod After
+pub mod Below
+pub mod Datatypes
+pub mod Digits
+pub mod Numbers
