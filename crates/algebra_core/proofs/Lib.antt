@@ -1,0 +1,13 @@
+pub mod GraphSteps
+pub mod Loops
+pub mod Evals
+pub mod Bags
+pub mod SubBags
+pub mod Members
+pub mod ValuesOnRows
+pub mod Comparing
+pub mod Ordered
+pub mod Totals
+pub mod Ranking
+pub mod ExpressionBags
+pub mod SolutionBags

@@ -1,0 +1,10 @@
+use Rattle.std.proofs.Common.{◌≡◌, ◌++◌, take, drop, map, flat_map, zero}
+use Rattle.rows_core.specs.Rows.{projected}
+use Rattle.rows_core.specs.Bindings.{extensions}
+use Rattle.algebra_core.specs.Graphs.{extended, all_extended, once}
+use Rattle.algebra_core.specs.Meaning.{join, joined, shown}
+use Rattle.algebra_core.specs.Query.{same_row}
+use Rattle.algebra_core.proofs.evaluation.hide.Given as goal
+
+abbrev pub invariant-loop-i : goal.invariant-loop-i
+invariant-loop-i l = shown l.names l.fn.cells ≡ take l.i l.cells ++ shown zero (drop l.i l.cells)

@@ -1,0 +1,312 @@
+ghost use Rattle.std.specs.Prelude.{◌≡◌, [], ◌∷◌, ◌++◌, IfOk, map, filter, length};
+ghost use Rattle.std.specs.List.{flat_map};
+ghost use Rattle.rows_core.specs.Bindings.{extensions};
+ghost use Rattle.rows_core.specs.Rows.{projected, free};
+ghost use Rattle.algebra_core.specs.Graphs.{extended, all_extended, once};
+ghost use Rattle.algebra_core.specs.Meaning as spec;
+ghost use Rattle.algebra_core.specs.Query.{same_row, distinct_if, body_rows, Answers, solutions};
+
+use crate::algebra::Algebra;
+use crate::conditions::holds;
+use crate::graph::Graph;
+use crate::ordering::ordered_rows;
+use crate::query::Query;
+use expr_eval::Expr;
+use indexmap::IndexSet;
+use rdf_terms::{Memory, Seq, Term, Triple};
+use rows_core::{Row, TriplePattern, bind, compatible, merge};
+use std::alloc::Global;
+
+/// The solutions of the query over the triples as a set. It is the plain evaluation: nested loops,
+/// once, over a finished list.
+pub fn evaluate_query(alloc: Global, query: &Query, triples: &[Triple]) -> Result<Seq<Row>, Memory>
+    ensures list { IfOk result (λ rows. rows ≡ solutions query.now triples.now) }
+    ensures answers { IfOk result (λ rows. Answers query.now triples.now rows) }
+{
+    let rows = body_solutions(alloc, query, triples)?;
+    let rows = ordered_rows(alloc, query, rows)?;
+    let rows = project_rows(alloc, query.select.as_slice(), rows)?;
+    let rows = distinct_rows(alloc, query.distinct, rows)?;
+    Ok(Seq::from_vec(rows))
+}
+
+fn body_solutions(alloc: Global, query: &Query, triples: &[Triple]) -> Result<Vec<Row>, Memory>
+    ensures { IfOk result (λ rows. rows.items ≡ body_rows query.now triples.now) }
+{
+    let graph = Graph::of_list(alloc, triples)?;
+    let size = Size {
+        width: query.width,
+        names: query.names.len(),
+    };
+    evaluate(alloc, size, &query.body, graph.as_slice())
+}
+
+/// The width of rows, and the number of variables with names.
+#[derive(Clone, Copy, Debug, Drop)]
+struct Size {
+    width: u16,
+    names: usize,
+}
+
+/// What an expression gives over a list of triples.
+#[tactic(auto, using(crate::proofs::Evals::evals))]
+fn evaluate(
+    alloc: Global,
+    size: Size,
+    algebra: &Algebra,
+    triples: &[Triple],
+) -> Result<Vec<Row>, Memory>
+    ensures { IfOk result (λ rows. rows.items ≡ spec.eval algebra.now size.width size.names triples.now) }
+{
+    match algebra {
+        Algebra::Bgp(patterns) => evaluate_bgp(alloc, size, patterns.as_slice(), triples),
+        Algebra::Join(a, b) => {
+            let a = evaluate(alloc, size, a.get(), triples)?;
+            let b = evaluate(alloc, size, b.get(), triples)?;
+            join_rows(alloc, a.as_slice(), b.as_slice())
+        }
+        Algebra::Union(a, b) => {
+            let a = evaluate(alloc, size, a.get(), triples)?;
+            let b = evaluate(alloc, size, b.get(), triples)?;
+            both(a, b)
+        }
+        Algebra::Filter(expr, a) => {
+            let a = evaluate(alloc, size, a.get(), triples)?;
+            filtered(alloc, expr, a)
+        }
+        Algebra::LeftJoin(a, b, expr) => {
+            let a = evaluate(alloc, size, a.get(), triples)?;
+            let b = evaluate(alloc, size, b.get(), triples)?;
+            left_join_rows(alloc, expr, a, b.as_slice())
+        }
+    }
+}
+
+fn both(first: Vec<Row>, second: Vec<Row>) -> Result<Vec<Row>, Memory>
+    ensures { IfOk result (λ all. all.items ≡ first.items ++ second.items) }
+{
+    let mut all = first;
+    let mut second = second;
+    all.append(&mut second)?;
+    Ok(all)
+}
+
+fn evaluate_bgp(
+    alloc: Global,
+    size: Size,
+    patterns: &[TriplePattern],
+    triples: &[Triple],
+) -> Result<Vec<Row>, Memory>
+    ensures { IfOk result (λ rows. rows.items ≡ map (spec.shown size.names) (all_extended patterns.now triples.now (free size.width ∷ []))) }
+{
+    let mut rows = Vec::new(alloc);
+    rows.push(Row::free(alloc, size.width)?)?;
+    let rows = extend_all(alloc, patterns, triples, rows)?;
+    shown_rows(alloc, size.names, rows)
+}
+
+/// The rows extended by each pattern in turn.
+#[tactic(auto, using(crate::proofs::Loops::extended_more))]
+fn extend_all(
+    alloc: Global,
+    patterns: &[TriplePattern],
+    triples: &[Triple],
+    rows: Vec<Row>,
+) -> Result<Vec<Row>, Memory>
+    ensures { IfOk result (λ all. all.items ≡ all_extended patterns.now triples.now rows.items) }
+{
+    let mut all = rows;
+    for pattern in patterns {
+        all = extend_rows(alloc, pattern, triples, all.as_slice())?;
+    }
+    Ok(all)
+}
+
+#[tactic(auto, using(crate::proofs::GraphSteps::flat_more))]
+fn extend_rows(
+    alloc: Global,
+    pattern: &TriplePattern,
+    triples: &[Triple],
+    rows: &[Row],
+) -> Result<Vec<Row>, Memory>
+    ensures { IfOk result (λ all. all.items ≡ extended pattern.now triples.now rows.now) }
+{
+    let mut all = Vec::new(alloc);
+    for row in rows {
+        let mut more = extend_row(alloc, pattern, triples, row)?;
+        all.append(&mut more)?;
+    }
+    Ok(all)
+}
+
+/// The row's extensions by the triples.
+#[tactic(auto, using(crate::proofs::GraphSteps::flat_more))]
+fn extend_row(
+    alloc: Global,
+    pattern: &TriplePattern,
+    triples: &[Triple],
+    row: &Row,
+) -> Result<Vec<Row>, Memory>
+    ensures { IfOk result (λ all. all.items ≡ flat_map (λ t. extensions pattern.now t row.now) triples.now) }
+{
+    let mut all = Vec::new(alloc);
+    for triple in triples {
+        if let Some(more) = bind(alloc, pattern, triple, row)? {
+            all.push(more)?;
+        }
+    }
+    Ok(all)
+}
+
+#[tactic(auto, using(crate::proofs::GraphSteps::flat_more))]
+fn join_rows(alloc: Global, firsts: &[Row], seconds: &[Row]) -> Result<Vec<Row>, Memory>
+    ensures { IfOk result (λ all. all.items ≡ spec.join firsts.now seconds.now) }
+{
+    let mut all = Vec::new(alloc);
+    for first in firsts {
+        let mut more = merges(alloc, first, seconds)?;
+        all.append(&mut more)?;
+    }
+    Ok(all)
+}
+
+/// The merges with each compatible row.
+#[tactic(auto, using(crate::proofs::GraphSteps::flat_more))]
+fn merges(alloc: Global, row: &Row, others: &[Row]) -> Result<Vec<Row>, Memory>
+    ensures { IfOk result (λ all. all.items ≡ flat_map (spec.joined row.now) others.now) }
+{
+    let mut all = Vec::new(alloc);
+    for other in others {
+        if compatible(row, other) {
+            all.push(merge(alloc, row, other)?)?;
+        }
+    }
+    Ok(all)
+}
+
+/// The rows on which the expression holds.
+#[tactic(auto, using(crate::proofs::Loops::filter_push))]
+fn filtered(alloc: Global, expr: &Expr, rows: Vec<Row>) -> Result<Vec<Row>, Memory>
+    ensures { IfOk result (λ kept. kept.items ≡ filter (spec.holds expr.now) rows.items) }
+{
+    let mut kept = Vec::new(alloc);
+    for row in rows {
+        if holds(alloc, expr, &row)? {
+            kept.push(row)?;
+        }
+    }
+    Ok(kept)
+}
+
+#[tactic(auto, using(crate::proofs::Loops::flat_push))]
+fn left_join_rows(
+    alloc: Global,
+    expr: &Expr,
+    firsts: Vec<Row>,
+    seconds: &[Row],
+) -> Result<Vec<Row>, Memory>
+    ensures { IfOk result (λ all. all.items ≡ spec.left_joined (spec.holds expr.now) firsts.items seconds.now) }
+{
+    let mut all = Vec::new(alloc);
+    for first in firsts {
+        let found = merges(alloc, &first, seconds)?;
+        let kept = filtered(alloc, expr, found)?;
+        let mut more = or_alone(alloc, first, kept)?;
+        all.append(&mut more)?;
+    }
+    Ok(all)
+}
+
+/// The matches of a row, or the row itself where there is none.
+fn or_alone(alloc: Global, first: Row, matches: Vec<Row>) -> Result<Vec<Row>, Memory>
+    ensures { IfOk result (λ all. all.items ≡ spec.or_alone first matches.items) }
+{
+    if !matches.is_empty() {
+        return Ok(matches);
+    }
+    let mut alone = Vec::new(alloc);
+    alone.push(first)?;
+    Ok(alone)
+}
+
+/// The rows without the bindings of blank nodes.
+fn shown_rows(alloc: Global, names: usize, rows: Vec<Row>) -> Result<Vec<Row>, Memory>
+    ensures { IfOk result (λ all. all.items ≡ map (spec.shown names) rows.items) }
+{
+    let mut all = Vec::new(alloc);
+    for row in rows {
+        all.push(shown(names, row))?;
+    }
+    Ok(all)
+}
+
+fn shown(names: usize, row: Row) -> Row
+    ensures { result ≡ spec.shown names row }
+{
+    let mut cells = row.into_vec();
+    hide(names, cells.as_mut_slice());
+    Row::from_vec(cells)
+}
+
+#[tactic(auto, using(crate::proofs::Loops::hidden_more, crate::proofs::Loops::shown_first, crate::proofs::Loops::shown_short))]
+fn hide(names: usize, cells: &mut [Option<Term>])
+    ensures { cells.new ≡ spec.shown names cells.old }
+{
+    if names >= cells.len() {
+        return;
+    }
+    for i in names..cells.len() {
+        cells[i] = None;
+    }
+}
+
+#[tactic(auto, using(crate::proofs::GraphSteps::map_more))]
+fn project_rows(alloc: Global, select: &[u16], rows: Vec<Row>) -> Result<Vec<Row>, Memory>
+    ensures { IfOk result (λ all. all.items ≡ map (projected select.now) rows.items) }
+{
+    let mut all = Vec::new(alloc);
+    for row in rows {
+        all.push(row.project(alloc, select)?)?;
+    }
+    Ok(all)
+}
+
+fn distinct_rows(alloc: Global, distinct: bool, rows: Vec<Row>) -> Result<Vec<Row>, Memory>
+    ensures { IfOk result (λ all. all.items ≡ distinct_if distinct rows.items) }
+{
+    if distinct {
+        first_rows(alloc, rows)
+    } else {
+        Ok(rows)
+    }
+}
+
+/// The first of each equal rows.
+fn first_rows(alloc: Global, rows: Vec<Row>) -> Result<Vec<Row>, Memory>
+    ensures { IfOk result (λ all. all.items ≡ once same_row rows.items) }
+{
+    let set = row_set(alloc, rows)?;
+    let firsts = set.into_iter().collect(alloc)?;
+    rows_of(alloc, firsts)
+}
+
+#[tactic(auto, using(crate::proofs::Loops::once_push))]
+fn row_set(alloc: Global, rows: Vec<Row>) -> Result<IndexSet<Seq<Option<Term>>>, Memory>
+    ensures { IfOk result (λ set. set.keys ≡ once same_row rows.items) }
+{
+    let mut set = IndexSet::new(alloc);
+    for row in rows {
+        set.insert(Seq::from_vec(row.into_vec()))?;
+    }
+    Ok(set)
+}
+
+fn rows_of(alloc: Global, firsts: Vec<Seq<Option<Term>>>) -> Result<Vec<Row>, Memory>
+    ensures { IfOk result (λ all. all.items ≡ firsts.items) }
+{
+    let mut all = Vec::new(alloc);
+    for cells in firsts {
+        all.push(Row::from_vec(cells.into_vec()))?;
+    }
+    Ok(all)
+}

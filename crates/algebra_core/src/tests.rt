@@ -1,0 +1,79 @@
+use crate::{Algebra, Query, evaluate_query, is_monotone, patterns, solutions_of_pattern};
+use rdf_terms::{Seq, Term, TextBuf, Triple};
+use rows_core::{Spot, TriplePattern};
+use std::test::Fail;
+
+fn iri(rt: &HostRuntime, text: &str) -> Result<Term, Fail> {
+    Ok(Term::Iri(TextBuf::from_str(rt.alloc(), text)?))
+}
+
+fn triple(rt: &HostRuntime, s: &str, p: &str, o: &str) -> Result<Triple, Fail> {
+    Ok(Triple {
+        s: iri(rt, s)?,
+        p: iri(rt, p)?,
+        o: iri(rt, o)?,
+    })
+}
+
+#[test]
+fn a_repeated_triple_gives_one_row(rt: HostRuntime) -> Result<(), Fail> {
+    let mut triples = Vec::new(rt.alloc());
+    triples.push(triple(&rt, "a", "p", "b")?)?;
+    triples.push(triple(&rt, "a", "q", "c")?)?;
+    triples.push(triple(&rt, "a", "p", "b")?)?;
+    let pattern = TriplePattern {
+        s: Spot::Var(0),
+        p: Spot::Term(iri(&rt, "p")?),
+        o: Spot::Var(1),
+    };
+    let rows = solutions_of_pattern(rt.alloc(), &pattern, 2, &[1], triples.as_slice())?;
+    assert_eq!(rt; rows.len(), 1);
+    assert!(rt; rows.as_slice()[0].cells() == [Some(iri(&rt, "b")?)].as_slice());
+    Ok(())
+}
+
+// The distinct subjects of triples whose predicate is p.
+fn subjects(rt: &HostRuntime) -> Result<Query, Fail> {
+    let mut names = Seq::new(rt.alloc());
+    names.push(TextBuf::from_str(rt.alloc(), "s")?)?;
+    names.push(TextBuf::from_str(rt.alloc(), "o")?)?;
+    let mut select = Seq::new(rt.alloc());
+    select.push(0)?;
+    let mut body = Seq::new(rt.alloc());
+    body.push(TriplePattern {
+        s: Spot::Var(0),
+        p: Spot::Term(iri(rt, "p")?),
+        o: Spot::Var(1),
+    })?;
+    Ok(Query {
+        names,
+        width: 2,
+        select,
+        distinct: true,
+        body: Algebra::Bgp(body),
+        order: Seq::new(rt.alloc()),
+    })
+}
+
+#[test]
+fn equal_rows_come_once_where_asked(rt: HostRuntime) -> Result<(), Fail> {
+    let mut triples = Vec::new(rt.alloc());
+    triples.push(triple(&rt, "a", "p", "b")?)?;
+    triples.push(triple(&rt, "a", "p", "c")?)?;
+    triples.push(triple(&rt, "d", "p", "b")?)?;
+    let query = subjects(&rt)?;
+    let copy = query.copy(rt.alloc())?;
+    let rows = evaluate_query(rt.alloc(), &copy, triples.as_slice())?;
+    assert_eq!(rt; rows.len(), 2);
+    assert!(rt; rows.as_slice()[1].cells() == [Some(iri(&rt, "d")?)].as_slice());
+    Ok(())
+}
+
+#[test]
+fn a_single_pattern_is_monotone(rt: HostRuntime) -> Result<(), Fail> {
+    let query = subjects(&rt)?;
+    assert!(rt; is_monotone(&query));
+    let listed = patterns(rt.alloc(), &query)?;
+    assert_eq!(rt; listed.len(), 1);
+    Ok(())
+}

@@ -1,0 +1,4 @@
+pub mod RowSteps
+pub mod Matching
+pub mod Bindable
+pub mod Joining
