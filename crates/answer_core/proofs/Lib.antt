@@ -1,0 +1,4 @@
+pub mod Outcomes
+pub mod Splitting
+pub mod Rows
+pub mod Sites

@@ -1,0 +1,51 @@
+//! The program `ltq`: SPARQL SELECT queries over Linked Data, by following links.
+//!
+//! It makes the real streams, calls `answer_alone`, and exits with the code of its status.
+#![tactic(auto)]
+
+ghost use Rattle.std.specs.Prelude.{◌≡◌};
+ghost use Rattle.std.specs.Process.{exit_status};
+ghost use Rattle.answer_core.specs.Codes.{code_of};
+
+use answer_core::{Status, answer_alone};
+use outer_ports::{ReadSource, WriteSink};
+use std::alloc::Global;
+use std::process::ExitCode;
+use std::rt::Env;
+use std::{env, io};
+
+/// The words after the program's name. It fails where one is no text.
+fn words<R: Env + Alloc<A = Global>>(rt: &R) -> io::Result<Vec<String>> {
+    let mut words = Vec::new(rt.alloc());
+    for (i, word) in env::args(rt)?.enumerate() {
+        if i > 0 {
+            words.push(word)?;
+        }
+    }
+    Ok(words)
+}
+
+fn status_of(error: io::Error) -> Status {
+    match error.kind() {
+        io::ErrorKind::OutOfMemory => Status::Memory,
+        _ => Status::NotBuilt,
+    }
+}
+
+fn exit_code(status: Status) -> ExitCode
+    ensures { exit_status result ≡ code_of status }
+{
+    ExitCode::from(status.code())
+}
+
+fn main(rt: HostRuntime) -> ExitCode {
+    let words = match words(&rt) {
+        Ok(words) => words,
+        Err(error) => return exit_code(status_of(error)),
+    };
+    let mut input = ReadSource::new(rt.reader());
+    let out = WriteSink::new(io::writer(&rt));
+    let mut report = WriteSink::new(rt.stderr());
+    let answer = answer_alone(rt.alloc(), &words, &mut input, out, &mut report);
+    exit_code(answer.status)
+}
