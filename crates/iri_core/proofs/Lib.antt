@@ -1,0 +1,6 @@
+pub mod ByTheRules
+pub mod Cuts
+pub mod Marks
+pub mod NoOtherResult
+pub mod Resolving
+pub mod SegmentLemmas
