@@ -1,0 +1,9 @@
+use crate::kind::QueryKind;
+
+/// A token of a text: its kind, and the places of its first byte and behind its last one.
+#[derive(Clone, Copy, Debug, PartialEq, Eq)]
+pub struct QueryToken {
+    pub kind: QueryKind,
+    pub from: usize,
+    pub to: usize,
+}

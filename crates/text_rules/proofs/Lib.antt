@@ -1,0 +1,11 @@
+pub mod Symbols
+pub mod Longest
+pub mod Gaps
+pub mod Walls
+pub mod Loop
+pub mod Unique
+pub mod Spelling
+pub mod Plain
+pub mod Lexicon
+pub mod Waiting
+pub mod Reading

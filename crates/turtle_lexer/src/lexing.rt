@@ -1,0 +1,94 @@
+//! The list of all tokens.
+
+ghost use Rattle.std.specs.Prelude.{◌≡◌, ◌≤◌, length, drop, All, IfOk};
+ghost use Rattle.text_rules.specs.Utf8.{symbols_of};
+ghost use Rattle.turtle_lexer.specs.State.{IsNameless};
+ghost use Rattle.turtle_lexer.specs.Tokens as spec;
+
+use crate::kind::TurtleKind;
+use crate::scan::longest;
+use crate::token::Token;
+use rdf_terms::Memory;
+use std::alloc::Global;
+use text_rules::{Gap, gap_at};
+
+/// What stands at a place, behind white space and comments.
+#[derive(Clone, Copy)]
+pub enum Next {
+    /// A token that others follow.
+    Token(Token),
+    /// The text's end, or the place where no token can be read.
+    Last(Token),
+}
+
+// A token of no bytes, which ends the list.
+fn last(kind: TurtleKind, at: usize) -> Next
+    ensures { result ≡ Next.Last (spec.token_of kind at at) }
+{
+    Next::Last(Token {
+        kind,
+        from: at,
+        to: at,
+    })
+}
+
+// The token that follows a place, and the new wall.
+fn read(bytes: &[u8], from: usize, wall: usize) -> (Next, usize)
+    requires place { from ≤ length bytes.now }
+    requires nameless { IsNameless wall from (symbols_of (drop from bytes.now)) }
+    ensures next { spec.IsNext bytes.now from result.0 }
+    ensures within { spec.IsWithin from (length bytes.now) result.0 }
+    ensures placed { spec.IsPlaced result.0 }
+    ensures plain { spec.HasPlain bytes.now result.0 }
+    ensures nameless { spec.IsNamelessBehind result.1 bytes.now result.0 }
+{
+    match gap_at(bytes, from) {
+        Gap::End(at) => (last(TurtleKind::End, at), wall),
+        Gap::Ill(at) => (last(TurtleKind::Bad, at), wall),
+        Gap::Token(at) => match longest(bytes, at, wall) {
+            (Some((kind, to)), wall) => (Next::Token(Token { kind, from: at, to }), wall),
+            (None, wall) => (last(TurtleKind::Bad, at), wall),
+        },
+    }
+}
+
+// How many bytes are skipped at the very beginning.
+fn skipped(bytes: &[u8]) -> usize
+    ensures value { result ≡ spec.skipped bytes.now }
+    ensures within { result ≤ length bytes.now }
+{
+    if bytes.starts_with(&[0xef, 0xbb, 0xbf]) {
+        3
+    } else {
+        0
+    }
+}
+
+/// All tokens of a text, in order: the last is `End` at the text's length, or `Bad` at the first
+/// place where no token can be read. It takes time linear in the length, and one list of memory.
+pub fn lex_turtle(alloc: Global, bytes: &[u8]) -> Result<Vec<Token>, Memory>
+    ensures tokens { IfOk result (λ tokens. spec.TurtleTokens bytes.now tokens.items) }
+
+    // What follows from that, for those who read the tokens' bytes.
+    ensures spans { IfOk result (λ tokens. All (spec.HasSpan (length bytes.now)) tokens.items) }
+    ensures plain { IfOk result (λ tokens. All (spec.IsPlain bytes.now) tokens.items) }
+    ensures ended { IfOk result (λ tokens. spec.IsEnded tokens.items) }
+{
+    let mut tokens = Vec::new(alloc);
+    let mut at = skipped(bytes);
+    let mut wall = at;
+    loop {
+        let (next, next_wall) = read(bytes, at, wall);
+        match next {
+            Next::Token(token) => {
+                tokens.push(token)?;
+                at = token.to;
+                wall = next_wall;
+            }
+            Next::Last(token) => {
+                tokens.push(token)?;
+                return Ok(tokens);
+            }
+        }
+    }
+}

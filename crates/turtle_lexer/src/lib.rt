@@ -1,0 +1,22 @@
+//! Turtle, cut into tokens.
+//!
+//! Promise: `lex_turtle` gives the token list of the bytes, each token the longest text that a rule
+//! allows at its place. The rules are in `specs/Rules.antt`, the list is in `specs/Tokens.antt`, and
+//! each text has one (`one_token_list`).
+//! Not here: what tokens stand for (`text_rules`, `specs/Values.antt`), and their grammar
+//! (`turtle_reader`).
+#![tactic(auto)]
+
+mod kind;
+mod laws;
+mod lexing;
+mod scan;
+mod state;
+#[cfg(test)]
+mod tests;
+mod token;
+
+pub use crate::kind::TurtleKind;
+pub use crate::laws::one_token_list;
+pub use crate::lexing::lex_turtle;
+pub use crate::token::Token;
