@@ -1,0 +1,11 @@
+pub mod Ends
+pub mod Numbers
+pub mod Printed
+pub mod Sound
+pub mod OneAnswer
+pub mod Following
+pub mod StepLemmas
+pub mod BeyondLemmas
+pub mod Lookups
+pub mod Growing
+pub mod OpenLines

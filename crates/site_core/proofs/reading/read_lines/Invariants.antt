@@ -1,0 +1,12 @@
+use Rattle.std.proofs.Common.{◌-◌, ◌≤◌, length}
+use Rattle.site_core.specs.Endings.{LeadsTo}
+use Rattle.site_core.proofs.reading.read_lines.Given as goal
+
+abbrev pub invariant-loop-entries : goal.invariant-loop-entries
+invariant-loop-entries l = record {
+  within : l.at ≤ length l.bytes;
+  leads : LeadsTo l.bytes l.entries.items l.spot l.at;
+}
+
+abbrev pub decreases-loop-entries : goal.decreases-loop-entries
+decreases-loop-entries l = length l.bytes - l.at

@@ -1,0 +1,64 @@
+-- Which parts of a line, cut off before its end, some allowed line begins with (docs/FORMATS.md, "Site file").
+use Rattle.std.specs.Prelude.{◌≡◌, ◌==◌, ◌<◌, ℕ, List, ◌++◌, length, take, codes, bytes_eq, slice_index, nat_le, Bool, true, false, not, ◌&&◌, ◌||◌, Option, Some, None, Result, Err, if◌then◌else◌}
+use Rattle.std.specs.List.{list_all}
+use Rattle.std.specs.Option.{is_none}
+use Rattle.link_uri.specs.declared.heard.Reply.{Reply}
+use Rattle.site_core.specs.Fields.{behind, is_digit, is_number, is_printable, is_status, number_of}
+use Rattle.site_core.specs.Lines.{step}
+use Rattle.site_core.specs.Places.{Reads}
+use Rattle.site_core.specs.Text.{Entry}
+use Rattle.site_core.specs.declared.spot.Spot.{Spot}
+use Rattle.site_core.specs.declared.spot.Spot.TheVariants.{Between}
+use Rattle.site_core.specs.declared.spot.Step.TheVariants.{Misfit}
+
+-- ---- what it means
+
+-- some bytes behind the part have another answer than a fault at the line
+abbrev pub CanGrow : List Entry → Spot → List ℕ → Type 0
+CanGrow done spot part = (more : List ℕ) × ((at : ℕ) → (answer : Result (List Entry) ℕ) × Reads done spot at (part ++ more) answer × (answer ≡ Err at → ⊥))
+
+-- no line that begins with the part is allowed there
+abbrev pub CannotGrow : List Entry → Spot → List ℕ → Type 0
+CannotGrow done spot part = (more : List ℕ) → step done spot (part ++ more) ≡ Misfit
+
+-- the part of a link line
+abbrev pub IsLinkPart : Spot → List ℕ → Type 0
+IsLinkPart spot part = (spot ≡ Between) × (0 < length part) × (take 5 part ≡ take (length part) (codes "link "))
+
+-- ---- the tests
+
+-- the word begins with the part
+abbrev pub begins : List ℕ → List ℕ → Bool
+begins word part = bytes_eq part (take (length part) word)
+
+abbrev pub rest_grows : (List ℕ → Bool) → Option (List ℕ) → Bool
+rest_grows test None = false
+rest_grows test (Some rest) = test rest
+
+-- the part begins a word, or goes on behind it with what may stand there
+abbrev pub word_grows : (List ℕ → Bool) → List ℕ → List ℕ → Bool
+word_grows test word part = begins word part || rest_grows test (behind word part)
+
+-- the beginning of a value, which may end in a space
+abbrev pub value_begins : List ℕ → Bool
+value_begins value = (length value == 0) || (list_all is_printable value && not (slice_index value 0 == 32))
+
+abbrev pub number_begins : List ℕ → Bool
+number_begins digits = (length digits == 0) || is_number digits
+
+-- a final status begins with the digit
+abbrev pub is_hundred : ℕ → Bool
+is_hundred byte = nat_le 50 byte && nat_le byte 53
+
+abbrev pub is_status_of : Option ℕ → Bool
+is_status_of None = false
+is_status_of (Some n) = is_status n
+
+abbrev pub status_begins : List ℕ → Bool
+status_begins digits = if length digits == 0 then true else (if length digits == 1 then is_hundred (slice_index digits 0)
+    else (if length digits == 2 then (is_hundred (slice_index digits 0) && is_digit (slice_index digits 1)) else is_status_of (number_of digits)))
+
+abbrev pub field_grows : Reply → List ℕ → Bool
+field_grows reply part = ((is_none reply.media && (is_none reply.coding && is_none reply.location)) && word_grows value_begins (codes "type ") part)
+    || (((is_none reply.coding && is_none reply.location) && word_grows value_begins (codes "coding ") part)
+    || ((is_none reply.location && word_grows value_begins (codes "location ") part) || word_grows number_begins (codes "body ") part))

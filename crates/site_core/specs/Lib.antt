@@ -1,0 +1,7 @@
+pub mod Capped
+pub mod Endings
+pub mod Fields
+pub mod Growth
+pub mod Lines
+pub mod Places
+pub mod Text

@@ -1,0 +1,173 @@
+ghost use Rattle.std.specs.Prelude.{◌≡◌, ◌⊎◌, false, codes, IfOk, MatchBool};
+ghost use Rattle.site_core.specs.Fields.{number_of};
+ghost use Rattle.site_core.specs.Growth as spec;
+ghost use Rattle.site_core.specs.declared.spot.Spot.TheVariants.{Between};
+
+use crate::fields::{
+    all_printable, behind, is_digit, is_number, is_site_link, is_status, number_of,
+};
+use crate::spot::Spot;
+use link_uri::Reply;
+use rdf_terms::{Memory, TextBuf};
+use std::alloc::Global;
+
+// Endings of which one makes a site link of each beginning of one: within a path, a host, a port,
+// and an address in brackets.
+const ENDINGS: [&[u8]; 10] = [
+    b"", b"~", b"~/", b"/", b"1/", b"81/", b"]/", b"1]/", b":1]/", b"::]/",
+];
+
+/// Whether a line that may stand at the spot begins with this part of one.
+pub(crate) fn can_grow(
+    alloc: Global,
+    entries: &[(TextBuf, Reply)],
+    spot: &Spot,
+    part: &[u8],
+) -> Result<bool, Memory>
+    ensures { IfOk result (λ grows. spec.IsLinkPart spot.now part.now
+        ⊎ MatchBool grows (spec.CanGrow entries.now spot.now part.now) (spec.CannotGrow entries.now spot.now part.now)) }
+{
+    match spot {
+        Spot::First => Ok(begins(b"site 1", part)),
+        Spot::Between => {
+            if begins(b"end", part) {
+                return Ok(true);
+            }
+            link_line_can_grow(alloc, entries, part)
+        }
+        Spot::Named(_) => Ok(status_line_grows(part)),
+        Spot::Headed(_, reply) => Ok(field_grows(reply, part)),
+    }
+}
+
+fn link_line_can_grow(
+    alloc: Global,
+    entries: &[(TextBuf, Reply)],
+    part: &[u8],
+) -> Result<bool, Memory>
+    requires { spec.begins (codes "end") part.now ≡ false }
+    ensures { IfOk result (λ grows. spec.IsLinkPart Between part.now
+        ⊎ MatchBool grows (spec.CanGrow entries.now Between part.now) (spec.CannotGrow entries.now Between part.now)) }
+{
+    if begins(b"link ", part) {
+        return Ok(true);
+    }
+    match behind(b"link ", part) {
+        Some(text) => link_can_grow(alloc, entries, text),
+        None => Ok(false),
+    }
+}
+
+// The link before it may go on with a `~`; what comes before it by another byte does for ever.
+fn link_can_grow(alloc: Global, entries: &[(TextBuf, Reply)], text: &[u8]) -> Result<bool, Memory> {
+    if let Some(before) = entries.last() {
+        let before = before.0.as_str().as_bytes();
+        if before.starts_with(text) {
+            return Ok(true);
+        }
+        if before.cmp(text).is_gt() {
+            return Ok(false);
+        }
+    }
+    if b"http://".starts_with(text) {
+        return Ok(true);
+    }
+    for ending in ENDINGS {
+        let mut link = Vec::from_slice(alloc, text)?;
+        link.extend_from_slice(ending)?;
+        if is_site_link(alloc, link.as_slice())? {
+            return Ok(true);
+        }
+    }
+    Ok(false)
+}
+
+fn begins(word: &[u8], part: &[u8]) -> bool
+    ensures { result ≡ spec.begins word.now part.now }
+{
+    word.starts_with(part)
+}
+
+fn status_line_grows(part: &[u8]) -> bool
+    ensures { result ≡ spec.word_grows spec.status_begins (codes "status ") part.now }
+{
+    if begins(b"status ", part) {
+        return true;
+    }
+    match behind(b"status ", part) {
+        Some(digits) => status_begins(digits),
+        None => false,
+    }
+}
+
+fn status_begins(digits: &[u8]) -> bool
+    ensures { result ≡ spec.status_begins digits.now }
+{
+    if digits.is_empty() {
+        true
+    } else if digits.len() == 1 {
+        is_hundred(digits[0])
+    } else if digits.len() == 2 {
+        is_hundred(digits[0]) && is_digit(digits[1])
+    } else {
+        is_status_text(digits)
+    }
+}
+
+// Whether a final status begins with the digit.
+fn is_hundred(byte: u8) -> bool
+    ensures { result ≡ spec.is_hundred byte }
+{
+    byte >= b'2' && byte <= b'5'
+}
+
+fn is_status_text(digits: &[u8]) -> bool
+    ensures { result ≡ spec.is_status_of (number_of digits.now) }
+{
+    match number_of(digits) {
+        Some(number) => is_status(number),
+        None => false,
+    }
+}
+
+fn field_grows(reply: &Reply, part: &[u8]) -> bool
+    ensures { result ≡ spec.field_grows reply.now part.now }
+{
+    let located = reply.location.is_none();
+    let coded = reply.coding.is_none() && located;
+    let typed = reply.media.is_none() && coded;
+    (typed && value_line_grows(b"type ", part))
+        || ((coded && value_line_grows(b"coding ", part))
+            || ((located && value_line_grows(b"location ", part)) || body_line_grows(part)))
+}
+
+fn value_line_grows(word: &[u8], part: &[u8]) -> bool
+    ensures { result ≡ spec.word_grows spec.value_begins word.now part.now }
+{
+    if begins(word, part) {
+        return true;
+    }
+    match behind(word, part) {
+        Some(value) => value_begins(value),
+        None => false,
+    }
+}
+
+// The part may end in a space, since another byte may follow.
+fn value_begins(value: &[u8]) -> bool
+    ensures { result ≡ spec.value_begins value.now }
+{
+    value.is_empty() || (all_printable(value) && value[0] != b' ')
+}
+
+fn body_line_grows(part: &[u8]) -> bool
+    ensures { result ≡ spec.word_grows spec.number_begins (codes "body ") part.now }
+{
+    if begins(b"body ", part) {
+        return true;
+    }
+    match behind(b"body ", part) {
+        Some(digits) => digits.is_empty() || is_number(digits),
+        None => false,
+    }
+}

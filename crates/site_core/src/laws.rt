@@ -1,0 +1,20 @@
+//! Laws of the definitions. Each function's contract is one law, and its body is empty.
+ghost use Rattle.std.specs.Prelude.{◌≡◌, ℕ, List};
+ghost use Rattle.site_core.specs.Places.{SiteBad};
+ghost use Rattle.site_core.specs.Text.{Entry, SiteText};
+
+/// A text is that of one site: reading what was written gives the site again.
+pub fn a_text_has_one_site()
+    ensures { (a b : List Entry) (bytes : List ℕ) → SiteText a bytes → SiteText b bytes → a ≡ b }
+{}
+
+/// Bytes with a fault are no site text.
+pub fn a_site_text_has_no_fault()
+    ensures { (entries : List Entry) (bytes : List ℕ) (at : ℕ)
+        → SiteText entries bytes → SiteBad bytes at → ⊥ }
+{}
+
+/// There is one first fault.
+pub fn a_fault_has_one_place()
+    ensures { (bytes : List ℕ) (a b : ℕ) → SiteBad bytes a → SiteBad bytes b → a ≡ b }
+{}
