@@ -1,0 +1,3 @@
+pub mod Web
+pub mod Reach
+pub mod Record

@@ -1,0 +1,4 @@
+pub mod PortLemmas
+pub mod LanesLemmas
+pub mod MemoryWebLemmas
+pub mod SiteWebLemmas
