@@ -1,0 +1,14 @@
+use Rattle.std.specs.VecDeque.{deque_len}
+use Rattle.rdf_terms.specs.Lists.{IsIn}
+use Rattle.traverse_core.specs.declared.steps.Command.{Command}
+use Rattle.traverse_core.specs.Steps.{IsRun, MayBe}
+use Rattle.traverse_core.proofs.commands.follow_all.Given as goal
+
+abbrev pub invariant-loop-command : goal.invariant-loop-command
+invariant-loop-command g l = record {
+  ran : IsRun g.J.Job.run l.fn.run l.run;
+  may : (c : Command) → IsIn l.commands.items c → MayBe g.J.Job.run c;
+}
+
+abbrev pub decreases-loop-command : goal.decreases-loop-command
+decreases-loop-command g l = deque_len l.commands

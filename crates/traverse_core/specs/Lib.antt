@@ -1,0 +1,5 @@
+pub mod Query
+pub mod Run
+pub mod State
+pub mod Kept
+pub mod Steps

@@ -1,0 +1,127 @@
+-- The steps of a traversal: the state after each is a function of the state before, or a relation
+-- to it where the rows or the sink decide.
+use Rattle.std.specs.Prelude.{ℕ, ◌≡◌, ◌+◌, ◌<◌, ◌⊎◌, List, [], ◌∷◌, ◌++◌, Option, Some, None, IsTrue, if◌then◌else◌, is_none, false, length, slice_get}
+use Rattle.rdf_terms.specs.Lists.{add_all}
+use Rattle.rdf_terms.specs.Same.{same_triple}
+use Rattle.link_uri.specs.declared.link.Link.{Link}
+use Rattle.link_queue.specs.declared.state.LinkState.{LinkState}
+use Rattle.link_queue.specs.declared.state.LinkState.TheVariants.{Queued, InFlight, Settled}
+use Rattle.link_queue.specs.Table.{state_at, with_state, queue_all}
+use Rattle.rows_core.specs.Rows.{Cells}
+use Rattle.outer_ports.specs.Causes.{Rose}
+use Rattle.json_results.specs.Results.{head_text}
+use Rattle.reach_terms.specs.declared.record.Found.{Found}
+use Rattle.reach_terms.specs.Reach.{Rule, Text}
+use Rattle.reach_terms.specs.Record.{found_triples}
+use Rattle.algebra_core.specs.Query.{Answers}
+use Rattle.traverse_core.specs.Query.{selected_names}
+use Rattle.row_writer.specs.declared.written.Written.{Written}
+use Rattle.row_writer.specs.declared.written.Written.TheVariants.{Wrote, Clear, Failed}
+use Rattle.row_writer.specs.Output.{IsClear, WritesSome, KeepsText, closed_by}
+use Rattle.traverse_core.specs.declared.steps.Halt.TheVariants as halt
+use Rattle.traverse_core.specs.declared.steps.Command.{Command}
+use Rattle.traverse_core.specs.declared.steps.Command.TheVariants as step
+use Rattle.traverse_core.specs.Run.{Run, rule_of, HasLinks, MayFind, targets}
+use Rattle.traverse_core.specs.State.{State, is_running, next_of, IsDry, MayClose}
+
+-- open: the seeds, each once, are queued, and the head is pending
+abbrev pub opened : Run → State
+opened run = record {
+  table = queue_all [] run.seeds;
+  entries = [];
+  log = [];
+  drawn = 0;
+  out = record { names = selected_names run.query; rows = []; handed = 0; pending = head_text (selected_names run.query); closed = false; content = run.content; faults = run.faults };
+  halted = None;
+}
+
+-- the link of the number has another state
+abbrev pub restated : State → ℕ → LinkState → State
+restated s number state = record s { table = with_state s.table number state }
+
+-- take: the number that may be taken is in flight
+abbrev pub taken_at : State → Option ℕ → State
+taken_at s (Some number) = restated s number InFlight
+taken_at s None = s
+
+abbrev pub taken : Run → State → State
+taken run s = taken_at s (next_of run s)
+
+-- settle: the entry is appended, the triples that the log lacks are logged and the links that the table lacks are queued, each in order of first appearance
+abbrev pub settled : Rule → State → ℕ → Text → Found → State
+settled rule s number text found = record s {
+  table = with_state (queue_all s.table (targets rule found)) number Settled;
+  entries = s.entries ++ record { link = text; found = found } ∷ [];
+  log = add_all same_triple s.log (found_triples found);
+}
+
+-- draw: one more triple is drawn, or none where all are
+abbrev pub Draws : State → State → Type 0
+Draws s t = (IsDry s × (t ≡ s)) ⊎ ((s.drawn < length s.log) × (t ≡ record s { drawn = s.drawn + 1 }))
+
+-- write: the output writes; where the sink fails the run is halted
+abbrev pub WritesOut : State → State → Written → Type 0
+WritesOut s t Wrote = WritesSome s.out t.out × (t ≡ record s { out = t.out })
+WritesOut s t Clear = IsClear s.out × (t ≡ s)
+WritesOut s t Failed = KeepsText s.out t.out × Rose s.out.faults t.out.faults × (t ≡ record s { out = t.out; halted = Some halt.Output })
+
+-- close: the answers over the log are the rows, and the tail follows them
+pub record Closes (run : Run) (s t : State) : Type 0 where
+  pub rows : List Cells
+  pub answers : Answers run.query s.log rows
+  pub is : t ≡ record s { out = closed_by s.out rows }
+
+-- halt, for want of memory
+abbrev pub halted_by_memory : State → State
+halted_by_memory s = record s { halted = if is_none s.halted then Some halt.Memory else s.halted }
+
+-- nothing changes but the sink's count of faults: memory was wanting
+pub record Stays (s t : State) : Type 0 where
+  pub is : t ≡ record s { out = t.out }
+  pub out : KeepsText s.out t.out
+
+-- ---- the machine
+
+-- settling the link of a number, where it may be
+pub record Settles (run : Run) (number : ℕ) (link : Link) (found : Found) (s t : State) : Type 0 where
+  pub runs : IsTrue (is_running s)
+  pub out : slice_get s.table number ≡ Some (link, InFlight)
+  pub dry : IsDry s
+  pub clear : IsClear s.out
+  pub links : HasLinks found
+  pub may : MayFind run link found
+  pub is : t ≡ settled (rule_of run) s number link.text found
+
+-- a step by its command, under its conditions
+abbrev pub Steps : Run → Command → State → State → Type 0
+Steps run step.Take s t = t ≡ taken run s
+Steps run (step.Settle number link found) s t = Settles run number link found s t
+Steps run (step.GiveBack number) s t = (state_at s.table number ≡ Some InFlight) × (t ≡ restated s number Queued)
+Steps run step.Draw s t = IsTrue (is_running s) × Draws s t
+Steps run step.Write s t = (s.halted ≡ None) × ((written : Written) × WritesOut s t written)
+Steps run step.Close s t = IsTrue (is_running s) × MayClose run s × Closes run s t
+Steps run step.Halt s t = t ≡ halted_by_memory s
+
+-- what a command does: its step, or nothing where its conditions don't hold or memory is wanting
+abbrev pub Does : Run → Command → State → State → Type 0
+Does run command s t = Steps run command s t ⊎ Stays s t
+
+-- the states, newest first, lead from s to t, each by a command
+abbrev pub LeadTo : Run → State → List State → State → Type 0
+LeadTo run s [] t = t ≡ s
+LeadTo run s (m ∷ before) t = LeadTo run s before m × ((command : Command) × Does run command m t)
+
+-- a list of steps leads from s to t
+pub record IsRun (run : Run) (s t : State) : Type 0 where
+  pub over : List State
+  pub steps : LeadTo run s over t
+
+-- a found that is settled by a command may be found at its link
+abbrev pub MayBe : Run → Command → Type 0
+MayBe run (step.Settle number link found) = HasLinks found × MayFind run link found
+MayBe run step.Take = Unit {0}
+MayBe run (step.GiveBack number) = Unit {0}
+MayBe run step.Draw = Unit {0}
+MayBe run step.Write = Unit {0}
+MayBe run step.Close = Unit {0}
+MayBe run step.Halt = Unit {0}

@@ -1,0 +1,10 @@
+use crate::steps::Halt;
+use reach_terms::Record;
+
+/// What a traversal ends with.
+#[derive(Drop)]
+pub struct Finished<S> {
+    pub trace: Record,
+    pub out: S,
+    pub halted: Option<Halt>,
+}

@@ -1,0 +1,27 @@
+//! A traversal: what was looked up, logged and queued, what is to be written, and the steps between.
+//!
+//! Promise: each call is one step of `specs/Steps.antt`, and each state keeps what
+//! `specs/Kept.antt` lists, whatever the order of the steps; so at the end the record is traversed
+//! and faithful, and the links looked up are exactly the reachable ones (`reach_terms`).
+//! Not here: who takes steps, and how a link is looked up (`web_port`).
+//!
+//! A run is named by a type parameter that stands for its meanings (`Job`). Want of memory is
+//! `Memory` everywhere, and the traversal is then as it was.
+#![tactic(auto)]
+
+mod answering;
+mod commands;
+mod finished;
+mod growing;
+mod job;
+mod opening;
+mod steps;
+mod traversal;
+
+pub use crate::commands::follow_all;
+pub use crate::finished::Finished;
+pub use crate::job::Job;
+pub use crate::steps::{Command, Drawn, Halt};
+pub use crate::traversal::Traversal;
+pub use reach_terms::{Entry, Found, Record};
+pub use row_writer::Written;
