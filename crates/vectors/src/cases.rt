@@ -1,0 +1,45 @@
+use hex::FromHexError;
+use rdf_terms::Memory;
+use std::alloc::Global;
+
+/// The bytes of a field, or none where the piece is no field.
+pub fn bytes(alloc: Global, piece: &str) -> Result<Option<Vec<u8>>, Memory> {
+    let Some(digits) = piece.strip_prefix('x') else {
+        return Ok(None);
+    };
+    match hex::decode(alloc, digits) {
+        Ok(bytes) => Ok(Some(bytes)),
+        Err(FromHexError::OutOfMemory) => Err(Memory),
+        Err(_) => Ok(None),
+    }
+}
+
+fn text(alloc: Global, piece: &str) -> Result<Option<String>, Memory> {
+    match bytes(alloc, piece)? {
+        Some(bytes) => Ok(String::from_utf8(bytes).ok()),
+        None => Ok(None),
+    }
+}
+
+/// The fields of a case as texts, or none where one is no text.
+pub fn texts(alloc: Global, line: &str) -> Result<Option<Vec<String>>, Memory> {
+    let mut texts = Vec::new(alloc);
+    for piece in line.split(' ') {
+        match text(alloc, piece)? {
+            Some(text) => texts.push(text)?,
+            None => return Ok(None),
+        }
+    }
+    Ok(Some(texts))
+}
+
+/// What is said of a line that is no case of its kind.
+pub fn no_case(alloc: Global) -> Result<String, Memory> {
+    Ok(String::from_str(alloc, "no case")?)
+}
+
+/// A text in hexadecimal, with `x` in front.
+pub fn shown(alloc: Global, text: &str) -> Result<String, Memory> {
+    let digits = hex::encode(alloc, text)?;
+    Ok(format!(in alloc; "x{digits}")?)
+}
