@@ -1,0 +1,124 @@
+"""Compares the program `vectors` with an oracle's cases of one kind.
+
+    python3 compare_vectors.py PROGRAM KIND SEED COUNT      (LTQ_ORACLE names the oracle's folder)
+"""
+import json
+import os
+import subprocess
+import sys
+
+
+def shown(text):
+    return "x" + text.encode("utf-8").hex()
+
+
+def optional(text):
+    return "none" if text is None else shown(text)
+
+
+def link_text(link):
+    return "none" if link is None else "%s %s %s %d %s" % (shown(link[0]), link[1], shown(link[2]), link[3], shown(link[4]))
+
+
+def link_case(v):
+    return "%s %s" % (shown(v["base"]), shown(v["text"])), "%s; %s" % (link_text(v["link"]), link_text(v["join"]))
+
+
+def iri_case(v):
+    parts = v["split"]
+    split = "%s %s %s %s %s" % (optional(parts[0]), optional(parts[1]), shown(parts[2]), optional(parts[3]), optional(parts[4]))
+    check = "fine" if v["check"] is None else str(v["check"])
+    resolved = "refused %d" % v["not_an_iri"] if "not_an_iri" in v else shown(v["resolve"])
+    return "%s %s" % (shown(v["base"]), shown(v["text"])), "%s; %s; %s" % (split, check, resolved)
+
+
+def tokens_case(v):
+    return "x" + v["hex"], "".join("%s %d %d;" % tuple(token) for token in v["tokens"])
+
+
+def site_case(v):
+    return "x" + v["hex"], "bad %d" % v["bad"] if "bad" in v else "site x" + v["hex"]
+
+
+ESCAPES = {"\\": "\\", '"': '"', "n": "\n", "r": "\r", "t": "\t"}
+
+
+def term_fields(text):
+    """The four fields of a term in its N-Triples form."""
+    if text.startswith("<"):
+        fields = ["iri", text[1:-1], "", ""]
+    elif text.startswith("_:b"):
+        number, _, doc = text[3:].partition("x")
+        fields = ["blank", bytes.fromhex(doc).decode("utf-8"), number, ""]
+    else:
+        lexical, i = "", 1
+        while text[i] != '"':
+            if text[i] == "\\":
+                i += 1
+                lexical += ESCAPES[text[i]]
+            else:
+                lexical += text[i]
+            i += 1
+        rest = text[i + 1:]
+        if rest.startswith("@"):
+            fields = ["literal", lexical, "http://www.w3.org/1999/02/22-rdf-syntax-ns#langString", rest[1:]]
+        elif rest.startswith("^^"):
+            fields = ["literal", lexical, rest[3:-1], ""]
+        else:
+            fields = ["literal", lexical, "http://www.w3.org/2001/XMLSchema#string", ""]
+    return " ".join(shown(field) for field in fields)
+
+
+def terms_case(v):
+    row = "\n{\"v\":%s}" % v["json"]
+    return term_fields(v["ntriples"]), "%s %s" % (shown(v["ntriples"]), shown(row))
+
+
+def truth(value):
+    return "none" if value is None else "true" if value else "false"
+
+
+def computed(text):
+    """A computed number: its value times 10 to the 18th, and whether it is whole."""
+    if text is None:
+        return "none"
+    lexical = text[1:text.index('"', 1)]
+    sign, digits = (-1, lexical[1:]) if lexical.startswith("-") else (1, lexical)
+    whole, _, part = digits.partition(".")
+    return "%d %s" % (sign * int(whole + part.ljust(18, "0")[:18]), truth("integer" in text))
+
+
+def values_case(v):
+    order = {-1: "less", 0: "equal", 1: "greater"}[v["order"]]
+    literal, sums = "no literal", "no numbers"
+    if "lexical" in v:
+        number = "none" if v["number"] is None else "%s %s" % (v["number"]["scaled"], truth(v["number"]["whole"]))
+        literal = "%s %s %s" % (truth(v["well_formed"]), truth(v["boolean"]), number)
+    if "add" in v:
+        sums = "%s, %s" % (computed(v["add"]), computed(v["sub"]))
+    pair = "%s %s %s %s" % (truth(v["ebv_a"]), truth(v["equal"]), truth(v["less"]), order)
+    return "%s %s" % (term_fields(v["a"]), term_fields(v["b"])), "%s; %s; %s" % (pair, literal, sums)
+
+
+KINDS = {"link": link_case, "iri": iri_case, "site": site_case, "turtle_tokens": tokens_case, "terms": terms_case, "values": values_case}
+
+
+def main():
+    program, kind, seed, count = sys.argv[1:5]
+    made = subprocess.run([sys.executable, "unit_vectors.py", "--kind", kind, "--seed", seed, "--count", count],
+                          cwd=os.environ["LTQ_ORACLE"], stdout=subprocess.PIPE, check=True)
+    cases = [KINDS[kind](json.loads(line)) for line in made.stdout.decode("utf-8").splitlines()]
+    ran = subprocess.run([program, kind], input="".join(c[0] + "\n" for c in cases).encode("utf-8"), stdout=subprocess.PIPE)
+    answers = ran.stdout.decode("utf-8").splitlines()
+    if ran.returncode != 0 or len(answers) != len(cases):
+        print("vectors %s: status %d, %d answers to %d cases" % (kind, ran.returncode, len(answers), len(cases)))
+        return 1
+    differ = [(case, wanted, answer) for (case, wanted), answer in zip(cases, answers) if wanted != answer]
+    for case, wanted, answer in differ[:3]:
+        print("case   %s\nwanted %s\nanswer %s" % (case, wanted, answer))
+    print("vectors %s: %d agree, %d differ" % (kind, len(cases) - len(differ), len(differ)))
+    return 1 if differ else 0
+
+
+if __name__ == "__main__":
+    sys.exit(main())
