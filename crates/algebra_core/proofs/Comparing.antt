@@ -1,5 +1,5 @@
 -- Steps of comparisons that go part by part.
-use Rattle.std.proofs.Common.{◌≡◌, ◌∙◌, ℕ, zero, suc, ◌+◌, ◌<◌, ◌≤◌, List, [], ◌∷◌, ◌++◌, Option, None, Ordering, Less, Equal, Greater, refl, sym, ap, ap₂, arith, length, get_or, drop, add-one}
+use Rattle.std.proofs.Common.{◌≡◌, ◌∙◌, ℕ, zero, suc, ◌+◌, ◌<◌, ◌≤◌, List, [], ◌∷◌, ◌++◌, Option, Ordering, Less, Equal, Greater, refl, sym, ap, ap₂, arith, length, get_or, drop, add-one}
 use Rattle.std.specs.Prelude.{slice_get}
 use Rattle.std.specs.Ordering.{ordering_then}
 use Rattle.std.specs.Cmp.Lexicographic.{slice_cmp}
@@ -8,7 +8,6 @@ use Rattle.rdf_terms.specs.declared.term.Term.{Term}
 use Rattle.rows_core.specs.Rows.{Cells, cell_or_free}
 use Rattle.expr_eval.specs.Order.{term_order}
 use Rattle.algebra_core.specs.declared.query.Key.{Key}
-use Rattle.algebra_core.specs.Meaning.{bindings_of}
 use Rattle.algebra_core.specs.Order.{directed, bindings_cmp, numbers}
 use Rattle.algebra_core.specs.Ranks.{first_of, rest_of, values_cmp}
 
@@ -35,12 +34,12 @@ values_next keys xs ys i d h =
     ∙ ap₂ (λ (x y : Option Term). ordering_then (directed (get_or keys i d).descending term_order x y) (values_cmp (drop (i + 1) keys) (rest_of (drop i xs)) (rest_of (drop i ys)))) (first_drop xs i) (first_drop ys i)
     ∙ ap₂ (λ (us vs : List (Option Term)). ordering_then (directed (get_or keys i d).descending term_order (cell_or_free (slice_get xs i)) (cell_or_free (slice_get ys i))) (values_cmp (drop (i + 1) keys) us vs)) (rest_more xs i) (rest_more ys i)
 
-first_decides : (o p : Ordering) → (o ≡ Equal → ⊥) → ordering_then o p ≡ o
+pub first_decides : (o p : Ordering) → (o ≡ Equal → ⊥) → ordering_then o p ≡ o
 first_decides Less p n = refl
 first_decides Equal p n = absurd (n refl)
 first_decides Greater p n = refl
 
-first_ties : (o p : Ordering) → o ≡ Equal → ordering_then o p ≡ p
+pub first_ties : (o p : Ordering) → o ≡ Equal → ordering_then o p ≡ p
 first_ties Less p e = absurd (cc)
 first_ties Equal p e = refl
 first_ties Greater p e = absurd (cc)

@@ -1,5 +1,5 @@
 -- The laws of expressions, case by case.
-use Rattle.std.proofs.Common.{rules, ◌≡◌, ℕ, Bool, true, false, List, [], ◌∷◌, ◌++◌, map, filter, flat_map, length, sym, ◌∙◌, arith, IsPermutation}
+use Rattle.std.proofs.Common.{rules, ◌≡◌, Bool, true, false, List, [], ◌∷◌, filter, flat_map, sym, ◌∙◌, arith, IsPermutation}
 use Rattle.std.specs.Prelude.{◌&&◌}
 use Rattle.std.proofs.lemmas.List.Sorted.{IsPermutation-refl, length_permutation}
 use Rattle.rdf_terms.specs.declared.triple.Triple.{Triple}
@@ -10,7 +10,7 @@ use Rattle.rows_core.proofs.Matching.{and_both}
 use Rattle.algebra_core.specs.declared.algebra.Algebra.{Algebra, Bgp, Join, Union, Filter, LeftJoin, the_lemmas}
 use Rattle.algebra_core.specs.Graphs.{extended, all_extended}
 use Rattle.expr_eval.specs.declared.expr.Expr.{Expr}
-use Rattle.algebra_core.specs.Meaning.{joined, join, holds, or_alone, left_joined, shown, eval, is_plain}
+use Rattle.algebra_core.specs.Meaning.{joined, join, holds, or_alone, left_joined, shown, is_plain}
 use Rattle.algebra_core.specs.Bags.{IsSubBag}
 use Rattle.algebra_core.specs.Laws.{IgnoresOrder, Grows}
 use Rattle.algebra_core.proofs.Bags.{same_bag, then_bag, back, both, flat_bag, flat_each, filter_bag, map_bag}

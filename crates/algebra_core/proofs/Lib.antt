@@ -11,3 +11,7 @@ pub mod Totals
 pub mod Ranking
 pub mod ExpressionBags
 pub mod SolutionBags
+pub mod Flat
+pub mod Instances
+pub mod LeftJoins
+pub mod Shapes

@@ -1,5 +1,5 @@
 -- A list has one sorted order, where elements that tie are equal.
-use Rattle.std.proofs.Common.{◌≡◌, ◌∙◌, sym, ap, ap₂, subst, refl, suc, Bool, true, false, not, cond, List, [], ◌∷◌, ◌++◌, length, arith, Ordering, Less, Equal, Greater, is_lt, is_gt, is_eq, true≢false, IsPermutation, IsSorted}
+use Rattle.std.proofs.Common.{◌≡◌, ◌∙◌, sym, ap, ap₂, subst, refl, ℕ, zero, suc, ◌<◌, get_or, Bool, true, false, not, cond, List, [], ◌∷◌, ◌++◌, length, arith, Ordering, Less, Equal, Greater, is_lt, is_gt, is_eq, true≢false, IsPermutation, IsSorted}
 use Rattle.std.specs.Prelude.{if◌then◌else◌}
 use Rattle.std.specs.List.{AllByRecursion}
 use Rattle.std.specs.Cmp.{IsTotalOrder}
@@ -146,3 +146,19 @@ module _ {X : Type 0} (cmp : X → X → Ordering) (total : IsTotalOrder cmp) (t
   pub one_order : (xs ys : List X) → IsPermutation xs ys → in_order cmp xs ≡ in_order cmp ys
   one_order xs ys p =
       same_order (in_order cmp xs) (in_order cmp ys) (ascends_in_order xs) (ascends_in_order ys) (then_bag (IsPermutation-sym _ _ (in_order_bag xs)) (then_bag p (in_order_bag ys)))
+
+  -- ---- each element is at most the next
+
+  not_less : (o : Ordering) → is_gt o ≡ false → is_lt (ordering_reverse o) ≡ false
+  not_less Less h = refl
+  not_less Equal h = refl
+  not_less Greater h = absurd (true≢false h)
+
+  each_at_most : (xs : List X) → Ascends xs → (k : ℕ) (d : X) → suc k < length xs → is_lt (cmp (get_or xs (suc k) d) (get_or xs k d)) ≡ false
+  each_at_most [] up k d h = absurd (omega arith)
+  each_at_most (x ∷ []) up k d h = absurd (let z : suc k < suc zero = h in omega arith)
+  each_at_most (x ∷ y ∷ ys) up zero d h = ap is_lt (total.antisymm y x) ∙ not_less (cmp x y) up.0.0
+  each_at_most (x ∷ y ∷ ys) up (suc k) d h = each_at_most (y ∷ ys) up.1 k d (omega arith)
+
+  pub in_order_sorted : (xs : List X) → IsSorted cmp (in_order cmp xs)
+  in_order_sorted xs = λ k d p q. rw Rattle.std.proofs.Common.add-one (each_at_most (in_order cmp xs) (ascends_in_order xs) k d (omega arith))

@@ -1,5 +1,5 @@
 -- A sort of rows beside their key values puts the rows in order.
-use Rattle.std.proofs.Common.{◌≡◌, ◌∙◌, ℕ, ◌+◌, ◌<◌, List, [], ◌∷◌, Ordering, refl, sym, ap, ap₂, subst, arith, map, length, get_or, is_lt, IsPermutation, IsSorted}
+use Rattle.std.proofs.Common.{◌≡◌, ◌∙◌, ℕ, ◌+◌, List, [], ◌∷◌, Ordering, refl, sym, ap, ap₂, subst, arith, map, length, get_or, is_lt, IsPermutation, IsSorted}
 use Rattle.std.specs.Ordering.{then_cmp, ordering_then}
 use Rattle.std.specs.List.{AllByRecursion}
 use Rattle.std.specs.Cmp.Lexicographic.{slice_cmp}

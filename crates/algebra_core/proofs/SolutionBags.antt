@@ -1,9 +1,6 @@
 -- The laws of a query's solutions, from those of its body.
 use Rattle.std.proofs.Common.{◌≡◌, ℕ, Bool, true, false, List, [], ◌∷◌, ◌++◌, Option, Some, None, refl, sym, ◌∙◌, ap, ap₂, subst, map, length, IsPermutation}
-use Rattle.std.specs.Prelude.{◌&&◌}
-use Rattle.std.specs.Bool.{Decides}
 use Rattle.std.specs.Option.{option_eq}
-use Rattle.std.proofs.lemmas.Option.{same_Some}
 use Rattle.rdf_terms.specs.declared.term.Term.{Term}
 use Rattle.rdf_terms.specs.declared.triple.Triple.{Triple}
 use Rattle.rdf_terms.specs.Lists.{IsIn, Apart}
@@ -15,9 +12,8 @@ use Rattle.rows_core.proofs.Matching.{and_both, both_and}
 use Rattle.algebra_core.specs.declared.query.Key.{Key}
 use Rattle.algebra_core.specs.declared.query.Query.{Query}
 use Rattle.algebra_core.specs.Graphs.{once, graph}
-use Rattle.algebra_core.specs.Meaning.{eval, is_plain}
 use Rattle.algebra_core.specs.Query.{same_row, distinct_if, body_rows, ordered_if, answers_by, Answers, IsMonotone, solutions}
-use Rattle.algebra_core.specs.Order.{in_order, row_cmp}
+use Rattle.algebra_core.specs.Order.{row_cmp}
 use Rattle.algebra_core.specs.Bags.{IsSubBag, SameMembers, IsWithin}
 use Rattle.algebra_core.specs.Laws.{IgnoresOrder, Grows}
 use Rattle.algebra_core.proofs.Bags.{map_bag, back}
@@ -38,13 +34,13 @@ grown same t xs = grown_all same Any [] xs t (λ y h. tt) (λ y h. tt)
 in_empty : {X : Type 0} (more new xs : List X) → new ≡ [] ++ more → ((x : X) → IsIn more x → IsIn xs x) → IsWithin new xs
 in_empty {X} more new xs e f x h = f x (Rattle.std.proofs.Common.subst (λ (l : List X). IsIn l x) e h)
 
-once_within : {X : Type 0} (same : X → X → Bool) → Tells same Any → (xs : List X) → IsWithin (once same xs) xs
+pub once_within : {X : Type 0} (same : X → X → Bool) → Tells same Any → (xs : List X) → IsWithin (once same xs) xs
 once_within same t xs = let g = grown same t xs in in_empty g.more (once same xs) xs g.is g.of
 
-within_once : {X : Type 0} (same : X → X → Bool) → Tells same Any → (xs : List X) → IsWithin xs (once same xs)
+pub within_once : {X : Type 0} (same : X → X → Bool) → Tells same Any → (xs : List X) → IsWithin xs (once same xs)
 within_once same t xs = (grown same t xs).all
 
-once_apart : {X : Type 0} (same : X → X → Bool) → Tells same Any → (xs : List X) → Apart (once same xs)
+pub once_apart : {X : Type 0} (same : X → X → Bool) → Tells same Any → (xs : List X) → Apart (once same xs)
 once_apart same t xs = (grown same t xs).once tt
 
 pub once_sub : {X : Type 0} (same : X → X → Bool) → Tells same Any → (xs ys : List X) → IsWithin xs ys → IsSubBag (once same xs) (once same ys)

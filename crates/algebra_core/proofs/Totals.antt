@@ -1,18 +1,17 @@
 -- The orders of rows, of their key values and of names are total, and only equal ones tie.
 use Rattle.std.proofs.Common.{◌≡◌, ◌∙◌, ℕ, Bool, true, false, List, [], ◌∷◌, Option, Ordering, Less, Equal, Greater, refl, sym}
-use Rattle.std.specs.Ordering.{nat_cmp, on, then_cmp, ordering_then}
+use Rattle.std.specs.Ordering.{nat_cmp, ordering_then}
 use Rattle.std.specs.Cmp.{IsTotalOrder}
 use Rattle.std.specs.Cmp.Lexicographic.{slice_cmp}
 use Rattle.std.proofs.lemmas.Cmp.{on_total, then_total, back_total, nat_cmp_total, lists_total}
 use Rattle.std.specs.FinMap.{nat_cmp-IsAntisymmetric, slice_cmp-IsAntisymmetric}
-use Rattle.rdf_terms.specs.Order.{text_cmp}
 use Rattle.rows_core.specs.Rows.{Cells}
 use Rattle.expr_eval.specs.Order.{term_order}
 use Rattle.expr_eval.proofs.OrderLaws.{term_order-total, term_order-ties}
 use Rattle.algebra_core.specs.declared.query.Key.{Key}
 use Rattle.algebra_core.specs.declared.query.Query.{Query}
 use Rattle.algebra_core.specs.Meaning.{bindings_of}
-use Rattle.algebra_core.specs.Order.{directed, key_value, key_cmp, keys_cmp, bindings_cmp, names_cmp, by_name, row_cmp}
+use Rattle.algebra_core.specs.Order.{directed, key_value, keys_cmp, bindings_cmp, names_cmp, by_name, row_cmp}
 use Rattle.algebra_core.specs.Ranks.{first_of, rest_of, keys_in, row_in, values_cmp, ranked_cmp}
 
 all_tie : {X : Type 0} → IsTotalOrder (λ (a b : X). Equal)
@@ -30,7 +29,7 @@ bindings_total : (vs : List ℕ) → IsTotalOrder (bindings_cmp vs)
 bindings_total [] = all_tie
 bindings_total (v ∷ vs) = then_total (on_total (λ (row : Cells). bindings_of row v) term_order-total) (bindings_total vs)
 
-cells_total : IsTotalOrder (slice_cmp term_order)
+pub cells_total : IsTotalOrder (slice_cmp term_order)
 cells_total = lists_total term_order-total
 
 values_total : (ks : List Key) → IsTotalOrder (values_cmp ks)
@@ -48,7 +47,7 @@ names_total names = then_total (on_total (λ (v : ℕ). Rattle.std.proofs.Common
 
 -- ---- ties
 
-second_ties : (o p : Ordering) → ordering_then o p ≡ Equal → p ≡ Equal
+pub second_ties : (o p : Ordering) → ordering_then o p ≡ Equal → p ≡ Equal
 second_ties Less p e = absurd (cc)
 second_ties Equal p e = e
 second_ties Greater p e = absurd (cc)

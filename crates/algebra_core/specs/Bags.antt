@@ -1,4 +1,4 @@
--- Bags: lists up to their order.
+-- Bags: lists up to their order, which are the multisets of solution mappings of SPARQL 1.1 Query Language, sections 18.3 and 18.5.
 use Rattle.std.specs.Prelude.{◌↔◌, List, ◌++◌}
 use Rattle.std.specs.List.Sorted.{IsPermutation}
 use Rattle.rdf_terms.specs.Lists.{IsIn}

@@ -24,11 +24,11 @@ graph triples = once same_triple triples
 abbrev pub extended : TriplePattern → List Triple → List Cells → List Cells
 extended p triples rows = flat_map (λ row. flat_map (λ t. extensions p t row) triples) rows
 
--- the rows extended by each pattern in turn
+-- the rows extended by each pattern in turn; from the row that binds nothing on they are the pattern instance mappings of section 18.3.1, which the law `pattern_rows_are_instances` says
 abbrev pub all_extended : List TriplePattern → List Triple → List Cells → List Cells
 all_extended [] triples rows = rows
 all_extended (p ∷ ps) triples rows = all_extended ps triples (extended p triples rows)
 
--- the solutions of a basic graph pattern over the triples as a set, projected; it begins with the one row that binds nothing
+-- the solutions of a basic graph pattern over the triples as a set, projected (section 18.5, Project); it begins with the one row that binds nothing
 abbrev pub solutions : List TriplePattern → ℕ → List ℕ → List Triple → List Cells
 solutions patterns width select triples = map (projected select) (all_extended patterns (graph triples) (free width ∷ []))

@@ -5,3 +5,5 @@ pub mod Ranks
 pub mod Query
 pub mod Bags
 pub mod Laws
+pub mod PatternInstances
+pub mod OptionalParts

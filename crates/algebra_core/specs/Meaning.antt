@@ -11,15 +11,15 @@ use Rattle.algebra_core.specs.declared.algebra.Algebra.{Algebra, fold-Algebra}
 use Rattle.algebra_core.specs.declared.algebra.Algebra.TheOpen.{Algebra-F}
 use Rattle.algebra_core.specs.Graphs.{all_extended}
 
--- the merge of two rows, where they are compatible
+-- the merge of two rows, where they are compatible (section 18.3)
 abbrev pub joined : Cells → Cells → List Cells
 joined a b = if fits a b then merged a b ∷ [] else []
 
--- for each row of the first list, for each compatible one of the second, their merge
+-- Join: for each row of the first list, for each compatible one of the second, their merge
 abbrev pub join : List Cells → List Cells → List Cells
 join xs ys = flat_map (λ a. flat_map (joined a) ys) xs
 
--- the row without the bindings of the variables from a number on; these are the blank nodes of patterns
+-- the row without the bindings of the variables from a number on; these are the blank nodes of patterns (section 18.3.1: a solution is the restriction to the variables)
 abbrev pub shown : ℕ → Cells → Cells
 shown n [] = []
 shown zero (c ∷ cs) = None ∷ shown zero cs
@@ -37,7 +37,7 @@ abbrev pub or_alone : Cells → List Cells → List Cells
 or_alone a [] = a ∷ []
 or_alone a (r ∷ rs) = r ∷ rs
 
--- for each row of the first list the merges with compatible rows of the second that pass the test; where there are none, the row itself
+-- LeftJoin: for each row of the first list the merges with compatible rows of the second that pass the test; where there are none, the row itself. That this is the standard's union of a filtered Join and Diff is a law, `left_join_is_join_and_rest`
 abbrev pub left_joined : (Cells → Bool) → List Cells → List Cells → List Cells
 left_joined p xs ys = flat_map (λ a. or_alone a (filter p (flat_map (joined a) ys))) xs
 

@@ -1,5 +1,5 @@
 -- The order of solutions (SPARQL 1.1 Query Language, section 15.1; docs/FORMATS.md, "Order of terms").
-use Rattle.std.specs.Prelude.{ℕ, zero, suc, Bool, List, [], ◌∷◌, ◌++◌, Option, None, length, get_or, if◌then◌else◌}
+use Rattle.std.specs.Prelude.{ℕ, zero, suc, Bool, List, [], ◌∷◌, ◌++◌, Option, length, get_or, if◌then◌else◌}
 use Rattle.std.specs.declared.cmp.Ordering.{Ordering}
 use Rattle.std.specs.declared.cmp.Ordering.TheVariants.{Equal}
 use Rattle.std.specs.Ordering.{nat_cmp, on, then_cmp, flip_args, is_gt}
@@ -58,6 +58,10 @@ names_cmp names = then_cmp (on (λ v. get_or names v []) text_cmp) nat_cmp
 abbrev pub by_name : List (List ℕ) → List ℕ
 by_name names = in_order (names_cmp names) (numbers (length names))
 
--- rows by the keys, then by the bindings of all names; at last by all cells, which differ only where a name's binding does
+-- rows by the keys, then by the bindings of all names
+abbrev pub solution_cmp : Query → Cells → Cells → Ordering
+solution_cmp q = then_cmp (keys_cmp q.order) (bindings_cmp (by_name q.names))
+
+-- the same for rows of any kind, at last by all cells, so that only equal rows tie; on a query's own rows the last comparison decides nothing (`names_break_ties`)
 abbrev pub row_cmp : Query → Cells → Cells → Ordering
 row_cmp q = then_cmp (keys_cmp q.order) (then_cmp (bindings_cmp (by_name q.names)) (slice_cmp term_order))

@@ -1,5 +1,5 @@
 -- Queries, their validity and their solutions, after SPARQL 1.1 Query Language, sections 15 and 18.5.
-use Rattle.std.specs.Prelude.{ℕ, ◌≡◌, ◌<◌, ◌≤◌, ◌+◌, Bool, true, ◌&&◌, nat_lt, List, [], ◌∷◌, ◌++◌, length, map, if◌then◌else◌}
+use Rattle.std.specs.Prelude.{ℕ, ◌≡◌, ◌<◌, ◌≤◌, Bool, true, ◌&&◌, nat_lt, List, [], ◌∷◌, ◌++◌, length, map, if◌then◌else◌}
 use Rattle.std.specs.Option.{option_eq}
 use Rattle.std.specs.Cmp.Lexicographic.{pointwise}
 use Rattle.std.specs.List.Sorted.{IsPermutation}
@@ -45,7 +45,7 @@ is_whole width = fold-Expr Bool (whole_step width)
 abbrev pub key_expr : Key → Expr
 key_expr k = k.expr
 
--- names differ and are at most the width, selected variables have names and stand once, variables are below the width
+-- what is asked of a query beside its grammar: names differ and are at most the width, selected variables have names and stand once, variables are below the width, expressions are whole
 pub record IsValid (q : Query) : Type 0 where
   pub names_differ : Apart q.names
   pub names_fit : length q.names ≤ q.width
@@ -75,7 +75,7 @@ abbrev pub ordered_if : List Key → (Cells → Cells → Ordering) → List Cel
 ordered_if [] cmp rows = rows
 ordered_if (k ∷ ks) cmp rows = in_order cmp rows
 
--- the rows of the body in order, then projected, then distinct
+-- the rows of the body in order, then projected, then distinct (section 18.5: OrderBy, Project, Distinct)
 abbrev pub solutions : Query → List Triple → List Cells
 solutions q triples = distinct_if q.distinct (map (projected q.select) (ordered_if q.order (row_cmp q) (body_rows q triples)))
 

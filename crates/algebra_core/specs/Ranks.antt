@@ -1,4 +1,4 @@
--- Rows beside the values of their keys, which a sort compares.
+-- Rows beside the values of their keys, which a sort compares in place of the rows alone (SPARQL 1.1 Query Language, section 15.1).
 use Rattle.std.specs.Prelude.{ℕ, List, [], ◌∷◌, Option, None, map}
 use Rattle.std.specs.declared.cmp.Ordering.{Ordering}
 use Rattle.std.specs.declared.cmp.Ordering.TheVariants.{Equal}
@@ -38,6 +38,10 @@ abbrev pub values_cmp : List Key → List (Option Term) → List (Option Term) �
 values_cmp [] xs ys = Equal
 values_cmp (k ∷ ks) xs ys = then_cmp (on first_of (directed k.descending term_order)) (on rest_of (values_cmp ks)) xs ys
 
--- by the values of the keys, then by the bindings of the variables, at last by all cells
+-- rows by the bindings of the variables, at last by all cells
+abbrev pub rows_cmp : List ℕ → Cells → Cells → Ordering
+rows_cmp places = then_cmp (bindings_cmp places) (slice_cmp term_order)
+
+-- by the values of the keys, then by the rows
 abbrev pub ranked_cmp : List Key → List ℕ → Ranked → Ranked → Ordering
-ranked_cmp keys places = then_cmp (on keys_in (values_cmp keys)) (on row_in (then_cmp (bindings_cmp places) (slice_cmp term_order)))
+ranked_cmp keys places = then_cmp (on keys_in (values_cmp keys)) (on row_in (rows_cmp places))

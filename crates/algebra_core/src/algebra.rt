@@ -20,7 +20,7 @@ pub enum Algebra {
 }
 
 impl Algebra {
-    /// An equal expression. Its texts are shared with this one.
+    /// An equal expression. Its texts are shared with this one. It costs a copy of each part.
     pub fn copy(&self, alloc: Global) -> Result<Algebra, Memory>
         ensures { IfOk result (λ a. a ≡ self.now) }
     {

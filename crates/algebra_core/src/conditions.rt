@@ -4,7 +4,7 @@ ghost use Rattle.rows_core.specs.Rows.{cell_or_free};
 ghost use Rattle.expr_eval.specs.Value as value;
 ghost use Rattle.algebra_core.specs.Meaning as spec;
 
-use expr_eval::{Env, Evaluated, Expr, ebv, evaluate};
+use expr_eval::{Env, Evaluated, Expr, evaluate, evaluate_truth};
 use rdf_terms::{Memory, Term};
 use rows_core::Row;
 use std::alloc::Global;
@@ -51,10 +51,7 @@ pub(crate) fn value_on(alloc: Global, expr: &Expr, row: &Row) -> Result<Option<T
 pub(crate) fn holds(alloc: Global, expr: &Expr, row: &Row) -> Result<bool, Memory>
     ensures { IfOk result (λ b. b ≡ spec.holds expr.now row.now) }
 {
-    match value_on(alloc, expr, row)? {
-        Some(term) => Ok(is_true(ebv(&term))),
-        None => Ok(false),
-    }
+    Ok(is_true(evaluate_truth(alloc, expr, &RowBindings { row })?))
 }
 
 fn is_true(truth: Option<bool>) -> bool

@@ -1,11 +1,39 @@
-ghost use Rattle.std.specs.Prelude.{List};
+ghost use Rattle.std.specs.Prelude.{ℕ, ◌≡◌, ◌↔◌, Bool, List, [], ◌∷◌, ◌++◌, filter};
+ghost use Rattle.std.specs.List.Sorted.{IsPermutation, IsSorted};
 ghost use Rattle.rdf_terms.specs.declared.triple.Triple.{Triple};
+ghost use Rattle.rdf_terms.specs.Lists.{IsIn, Apart};
+ghost use Rattle.rows_core.specs.declared.pattern.TriplePattern.{TriplePattern};
+ghost use Rattle.rows_core.specs.Rows.{Cells, free};
 ghost use Rattle.algebra_core.specs.Bags.{IsSubBag, SameMembers, IsWithin};
-ghost use Rattle.algebra_core.specs.Laws.{IgnoresOrder, Grows};
-ghost use Rattle.algebra_core.specs.Query.{Answers, IsMonotone, solutions};
+ghost use Rattle.algebra_core.specs.Graphs.{graph, all_extended};
+ghost use Rattle.algebra_core.specs.PatternInstances.{IsPatternInstance};
+ghost use Rattle.algebra_core.specs.Laws.{IgnoresOrder, Grows, KeepsShape};
+ghost use Rattle.algebra_core.specs.Meaning.{join, left_joined};
+ghost use Rattle.algebra_core.specs.Order.{in_order, row_cmp, solution_cmp};
+ghost use Rattle.algebra_core.specs.OptionalParts.{unmatched};
+ghost use Rattle.algebra_core.specs.Query.{Answers, IsMonotone, body_rows, solutions};
 
 use crate::algebra::Algebra;
 use crate::query::Query;
+
+/// Before the blank nodes are dropped, the rows of a basic graph pattern are exactly its pattern
+/// instance mappings, which map its variables and blank nodes so that each pattern is a triple of the
+/// graph; each stands once (SPARQL 1.1 Query Language, section 18.3.1).
+///
+/// A law: it does nothing.
+pub fn pattern_rows_are_instances()
+    ensures exact { (patterns : List TriplePattern) (width : ℕ) (g : List Triple) (row : Cells) → IsIn (all_extended patterns (graph g) (free width ∷ [])) row ↔ IsPatternInstance patterns width g row }
+    ensures once { (patterns : List TriplePattern) (width : ℕ) (g : List Triple) → Apart (all_extended patterns (graph g) (free width ∷ [])) }
+{}
+
+/// A left join is, as a bag, the join with the rows that fail the condition left out, and the rows
+/// of the first part that have no match (SPARQL 1.1 Query Language, section 18.5: Filter, Join and
+/// Diff).
+///
+/// A law: it does nothing.
+pub fn left_join_is_join_and_rest()
+    ensures { (holds : Cells → Bool) (xs ys : List Cells) → IsPermutation (left_joined holds xs ys) (filter holds (join xs ys) ++ unmatched holds xs ys) }
+{}
 
 /// The solutions depend neither on the order nor on the repeats of the triples: as a list where
 /// the query has keys, else as a bag.
@@ -24,6 +52,49 @@ pub fn solutions_grow(query: &Query)
     ensures { IsMonotone query.now → (g h : List Triple) → IsWithin g h → IsSubBag (solutions query.now g) (solutions query.now h) }
 {
     grow(&query.body);
+}
+
+/// Rows in order are the same bag, and none is greater than the next (SPARQL 1.1 Query Language,
+/// section 15.1).
+///
+/// A law: it does nothing.
+pub fn rows_in_order_are_sorted(query: &Query)
+    ensures bag { (rows : List Cells) → IsPermutation rows (in_order (row_cmp query.now) rows) }
+    ensures sorted { (rows : List Cells) → IsSorted (row_cmp query.now) (in_order (row_cmp query.now) rows) }
+{
+    let _query = query;
+}
+
+/// Rows of a query's body tie only where they are equal, once the keys and the bindings of all names
+/// are compared: what `row_cmp` compares last decides nothing.
+///
+/// A law: it walks over the query, and gives nothing.
+pub fn names_break_ties(query: &Query)
+    ensures { (g : List Triple) (a b : Cells) → IsIn (body_rows query.now g) a → IsIn (body_rows query.now g) b → row_cmp query.now a b ≡ solution_cmp query.now a b }
+{
+    keep_shape(&query.body);
+}
+
+#[tactic(auto, using(crate::proofs::Shapes::shapes))]
+fn keep_shape(algebra: &Algebra)
+    ensures { KeepsShape algebra.now }
+{
+    match algebra {
+        Algebra::Bgp(_) => {}
+        Algebra::Join(a, b) => {
+            keep_shape(a.get());
+            keep_shape(b.get());
+        }
+        Algebra::Union(a, b) => {
+            keep_shape(a.get());
+            keep_shape(b.get());
+        }
+        Algebra::Filter(_, a) => keep_shape(a.get()),
+        Algebra::LeftJoin(a, b, _) => {
+            keep_shape(a.get());
+            keep_shape(b.get());
+        }
+    }
 }
 
 #[tactic(auto, using(crate::proofs::ExpressionBags::orders))]

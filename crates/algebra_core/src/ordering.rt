@@ -21,7 +21,8 @@ struct Ranked {
     row: Row,
 }
 
-/// The rows in order, where the query has keys. It costs n log n comparisons.
+/// The rows in order, where the query has keys (SPARQL 1.1 Query Language, section 15.1). It costs
+/// an evaluation of each key a row, and n log n comparisons; bindings are compared where the keys tie.
 pub(crate) fn ordered_rows(alloc: Global, query: &Query, rows: Vec<Row>) -> Result<Vec<Row>, Memory>
     ensures { IfOk result (λ all. all.items ≡ ordered_if query.now.order (row_cmp query.now) rows.items) }
 {
@@ -83,12 +84,25 @@ fn sort_ranked(keys: &[Key], places: &[usize], ranked: &mut Vec<Ranked>) -> Resu
     Ok(())
 }
 
+#[tactic(auto, using(crate::proofs::Comparing::first_decides, crate::proofs::Comparing::first_ties))]
 fn compare_ranked(keys: &[Key], places: &[usize], a: &Ranked, b: &Ranked) -> Ordering
     ensures { result ≡ ranks.ranked_cmp keys.now places.now a.now b.now }
 {
-    compare_values(keys, a.keys.as_slice(), b.keys.as_slice())
-        .then(compare_bindings(places, a.row.cells(), b.row.cells()))
-        .then(compare_cells(a.row.cells(), b.row.cells()))
+    match compare_values(keys, a.keys.as_slice(), b.keys.as_slice()) {
+        Ordering::Equal => compare_rows(places, a.row.cells(), b.row.cells()),
+        other => other,
+    }
+}
+
+/// The rows by the bindings of the variables, and where these tie by all cells.
+#[tactic(auto, using(crate::proofs::Comparing::first_decides, crate::proofs::Comparing::first_ties))]
+fn compare_rows(places: &[usize], a: &[Option<Term>], b: &[Option<Term>]) -> Ordering
+    ensures { result ≡ ranks.rows_cmp places.now a.now b.now }
+{
+    match compare_bindings(places, a, b) {
+        Ordering::Equal => compare_cells(a, b),
+        other => other,
+    }
 }
 
 /// The values by the directions of their keys, in turn.

@@ -16,7 +16,7 @@ pub struct Key {
 }
 
 impl Key {
-    /// An equal key. Its texts are shared with this one.
+    /// An equal key. Its texts are shared with this one. It costs a copy of each part.
     pub fn copy(&self, alloc: Global) -> Result<Key, Memory>
         ensures { IfOk result (λ k. k ≡ self.now) }
     {
@@ -42,7 +42,7 @@ pub struct Query {
 }
 
 impl Query {
-    /// An equal query. Its texts are shared with this one.
+    /// An equal query. Its texts are shared with this one. It costs a copy of each part.
     pub fn copy(&self, alloc: Global) -> Result<Query, Memory>
         ensures { IfOk result (λ q. q ≡ self.now) }
     {
@@ -84,6 +84,7 @@ fn copy_numbers(alloc: Global, numbers: &[u16]) -> Result<Seq<u16>, Memory>
 }
 
 /// The patterns of the body's basic graph patterns from left to right, those of each in its order.
+/// It costs a copy of each pattern, and moves each at most once a level of the body.
 pub fn patterns(alloc: Global, query: &Query) -> Result<Seq<TriplePattern>, Memory>
     ensures { IfOk result (λ all. all ≡ patterns_of query.now.body) }
 {
@@ -91,7 +92,7 @@ pub fn patterns(alloc: Global, query: &Query) -> Result<Seq<TriplePattern>, Memo
 }
 
 /// Whether a larger graph gives no row less: exactly where no optional part stands in the body and
-/// there is no key. No memory.
+/// there is no key. It costs a walk over the body. No memory.
 pub fn is_monotone(query: &Query) -> bool
     ensures { IsTrue result ↔ IsMonotone query.now }
 {

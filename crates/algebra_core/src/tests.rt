@@ -1,4 +1,5 @@
-use crate::{Algebra, Query, evaluate_query, is_monotone, patterns, solutions_of_pattern};
+use crate::{Algebra, Key, Query, evaluate_query, is_monotone, patterns, solutions_of_pattern};
+use expr_eval::Expr;
 use rdf_terms::{Seq, Term, TextBuf, Triple};
 use rows_core::{Spot, TriplePattern};
 use std::test::Fail;
@@ -75,5 +76,26 @@ fn a_single_pattern_is_monotone(rt: HostRuntime) -> Result<(), Fail> {
     assert!(rt; is_monotone(&query));
     let listed = patterns(rt.alloc(), &query)?;
     assert_eq!(rt; listed.len(), 1);
+    match &listed.as_slice()[0].o {
+        Spot::Var(var) => assert_eq!(rt; *var, 1),
+        Spot::Term(_) => assert!(rt; false),
+    }
+    Ok(())
+}
+
+#[test]
+fn a_copied_key_puts_the_last_first(rt: HostRuntime) -> Result<(), Fail> {
+    let mut query = subjects(&rt)?;
+    let key = Key {
+        expr: Expr::Var(0),
+        descending: true,
+    };
+    query.order.push(key.copy(rt.alloc())?)?;
+    let mut triples = Vec::new(rt.alloc());
+    triples.push(triple(&rt, "a", "p", "b")?)?;
+    triples.push(triple(&rt, "d", "p", "b")?)?;
+    let rows = evaluate_query(rt.alloc(), &query, triples.as_slice())?;
+    assert_eq!(rt; rows.len(), 2);
+    assert!(rt; rows.as_slice()[0].cells() == [Some(iri(&rt, "d")?)].as_slice());
     Ok(())
 }

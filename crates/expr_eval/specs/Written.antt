@@ -1,4 +1,6 @@
--- How computed numbers are written (XML Schema Definition Language 1.1 Part 2, sections 3.3.3.2 and 3.4.13; docs/FORMATS.md, "Values").
+-- How computed numbers are written: decimals with digits on both sides of the point, as in the canonical representation of
+-- XML Schema Part 2: Datatypes, Second Edition, section 3.2.3.2, and integers as in its section 3.3.13.2 (version 1.1 drops the point of a
+-- whole decimal, section 3.3.3.2 there, and is not followed in this; docs/FORMATS.md, "Values of expressions").
 use Rattle.std.specs.Prelude.{ℕ, zero, suc, ◌+◌, ◌/◌, ◌%◌, ◌^◌, ◌==◌, if◌then◌else◌, List, [], ◌∷◌, ◌++◌, None, ℤ, pos, negsuc, unsigned_abs}
 use Rattle.std.specs.List.{list_all}
 use Rattle.std.specs.Fmt.{decimal}

@@ -1,4 +1,6 @@
-use crate::{CompareOp, Env, Evaluated, Expr, Function, Sign, equal, evaluate, order};
+use crate::{
+    CompareOp, Env, Evaluated, Expr, Function, Sign, equal, evaluate, evaluate_truth, order,
+};
 use items_core::{Boxed, Items};
 use rdf_terms::{Memory, Term, TextBuf};
 use std::test::Fail;
@@ -178,6 +180,22 @@ fn connectives_keep_errors_to_themselves(rt: HostRuntime) -> Result<(), Fail> {
     assert!(rt; comes_to(&rt, not(&rt, integer(&rt, "x")), Some("true"))?);
     assert!(rt; comes_to(&rt, Ok(Expr::Bound(0)), Some("true"))?);
     assert!(rt; comes_to(&rt, Ok(Expr::Var(1)), None)?);
+    Ok(())
+}
+
+fn truth_of(rt: &HostRuntime, expr: Result<Expr, Memory>) -> Result<Option<bool>, Memory> {
+    let env = One {
+        term: literal(rt, "7", INTEGER)?,
+    };
+    let expr = expr?;
+    evaluate_truth(rt.alloc(), &expr, &env)
+}
+
+#[test]
+fn truth_is_that_of_the_value(rt: HostRuntime) -> Result<(), Fail> {
+    assert_eq!(rt; truth_of(&rt, Ok(Expr::Var(0)))?, Some(true));
+    assert_eq!(rt; truth_of(&rt, not(&rt, Ok(Expr::Var(0))))?, Some(false));
+    assert_eq!(rt; truth_of(&rt, error(&rt))?, None);
     Ok(())
 }
 

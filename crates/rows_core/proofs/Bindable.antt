@@ -16,7 +16,7 @@ use Rattle.rows_core.proofs.Matching.{both_and, numbers, if_same, if_not}
 
 -- ---- extended rows
 
-same_extended : (cs : Cells) → IsExtended cs cs
+pub same_extended : (cs : Cells) → IsExtended cs cs
 same_extended [] = tt
 same_extended (None ∷ cs) = same_extended cs
 same_extended (Some x ∷ cs) = (refl, same_extended cs)
@@ -25,7 +25,7 @@ under_extended : (c : Option Term) (cs ds : Cells) → IsExtended cs ds → IsEx
 under_extended None cs ds h = h
 under_extended (Some x) cs ds h = (refl, h)
 
-twice_extended : (cs ds es : Cells) → IsExtended cs ds → IsExtended ds es → IsExtended cs es
+pub twice_extended : (cs ds es : Cells) → IsExtended cs ds → IsExtended ds es → IsExtended cs es
 twice_extended [] [] [] h k = tt
 twice_extended [] [] (e ∷ es) h k = absurd k
 twice_extended [] (d ∷ ds) es h k = absurd h
@@ -37,7 +37,7 @@ twice_extended (None ∷ cs) (Some y ∷ ds) (e ∷ es) h k = twice_extended cs 
 twice_extended (Some x ∷ cs) (None ∷ ds) (e ∷ es) h k = absurd (let z = h.0 in cc)
 twice_extended (Some x ∷ cs) (Some y ∷ ds) (e ∷ es) h k = (k.0 ∙ h.0, twice_extended cs ds es h.1 k.1)
 
-cell_kept : (v : ℕ) (ds es : Cells) (x : Term) → IsExtended ds es → cell_or_free (slice_get ds v) ≡ Some x → cell_or_free (slice_get es v) ≡ Some x
+pub cell_kept : (v : ℕ) (ds es : Cells) (x : Term) → IsExtended ds es → cell_or_free (slice_get ds v) ≡ Some x → cell_or_free (slice_get es v) ≡ Some x
 cell_kept v [] es x h e = absurd (cc)
 cell_kept v (d ∷ ds) [] x h e = absurd h
 cell_kept zero (None ∷ ds) (f ∷ es) x h e = absurd (cc)
@@ -45,21 +45,21 @@ cell_kept zero (Some y ∷ ds) (f ∷ es) x h e = h.0 ∙ e
 cell_kept (suc v) (None ∷ ds) (f ∷ es) x h e = cell_kept v ds es x h e
 cell_kept (suc v) (Some y ∷ ds) (f ∷ es) x h e = cell_kept v ds es x h.1 e
 
-value_kept : (s : Spot) (ds es : Cells) (x : Term) → IsExtended ds es → value_at ds s ≡ Some x → value_at es s ≡ Some x
+pub value_kept : (s : Spot) (ds es : Cells) (x : Term) → IsExtended ds es → value_at ds s ≡ Some x → value_at es s ≡ Some x
 value_kept (Fixed t) ds es x h e = e
 value_kept (Var v) ds es x h e = cell_kept v ds es x h e
 
 -- ---- what is bound has the binding, and extends the row
 
 -- the property holds of the row, if there is one
-abbrev Holds : (Cells → Type 0) → Option Cells → Type 0
+abbrev pub Holds : (Cells → Type 0) → Option Cells → Type 0
 Holds P None = Unit {0}
 Holds P (Some ds) = P ds
 
 abbrev Adds : Cells → Spot → Term → Cells → Type 0
 Adds cs s x ds = IsExtended cs ds × (value_at ds s ≡ Some x)
 
-if_holds : (P : Cells → Type 0) (b : Bool) (ds : Cells) → (b ≡ true → P ds) → Holds P (if b then Some ds else None)
+pub if_holds : (P : Cells → Type 0) (b : Bool) (ds : Cells) → (b ≡ true → P ds) → Holds P (if b then Some ds else None)
 if_holds P true ds h = h refl
 if_holds P false ds h = tt
 
@@ -77,7 +77,7 @@ spot_adds : (s : Spot) (x : Term) (cs : Cells) → Holds (Adds cs s x) (bound_sp
 spot_adds (Fixed t) x cs = if_holds (Adds cs (Fixed t) x) (same_term t x) cs (λ h. (same_extended cs, ap (λ (z : Term). Some z) ((term_Decides t x).0 h)))
 spot_adds (Var v) x cs = bound_adds v x cs
 
-each_holds : (P Q : Cells → Type 0) → ((ds : Cells) → P ds → Q ds) → (o : Option Cells) → Holds P o → Holds Q o
+pub each_holds : (P Q : Cells → Type 0) → ((ds : Cells) → P ds → Q ds) → (o : Option Cells) → Holds P o → Holds Q o
 each_holds P Q f None h = tt
 each_holds P Q f (Some ds) h = f ds h
 
@@ -101,7 +101,7 @@ bound_extends p t row =
 -- ---- each row that does so extends what is bound
 
 -- there is a row, and the other extends it
-abbrev Below : Cells → Option Cells → Type 0
+abbrev pub Below : Cells → Option Cells → Type 0
 Below es None = ⊥
 Below es (Some ds) = IsExtended ds es
 
@@ -134,7 +134,7 @@ then_below : (s : Spot) (x : Term) (es : Cells) → value_at es s ≡ Some x →
 then_below s x es e None h = absurd h
 then_below s x es e (Some ds) h = spot_below s x ds es h e
 
-pattern_below : (p : TriplePattern) (t : Triple) (row es : Cells) → IsExtended row es → Gives p t es → Below es (bound p t row)
+pub pattern_below : (p : TriplePattern) (t : Triple) (row es : Cells) → IsExtended row es → Gives p t es → Below es (bound p t row)
 pattern_below p t row es h g =
     then_below p.o t.o es g.2 (then_bound p.p t.p (bound_spot p.s t.s row)) (then_below p.p t.p es g.1 (bound_spot p.s t.s row) (spot_below p.s t.s row es h g.0))
 

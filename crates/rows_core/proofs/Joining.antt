@@ -44,7 +44,7 @@ fits_Decides a b = ((λ h. (fit_lengths a b h, fit_agree a b h)), (λ c. agree_f
 
 -- ---- the merge
 
-merged_width : (a b : Cells) → fits a b ≡ true → length (merged a b) ≡ length a
+pub merged_width : (a b : Cells) → fits a b ≡ true → length (merged a b) ≡ length a
 merged_width [] [] h = refl
 merged_width [] (d ∷ ds) h = absurd (cc)
 merged_width (c ∷ cs) [] h = absurd (cc)

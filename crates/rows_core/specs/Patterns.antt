@@ -1,5 +1,5 @@
 -- When a triple matches a triple pattern, after SPARQL 1.1 Query Language, sections 18.1.5 and 18.3.1.
-use Rattle.std.specs.Prelude.{ℕ, ◌≡◌, ◌==◌, ◌&&◌, Bool, true, if◌then◌else◌}
+use Rattle.std.specs.Prelude.{ℕ, ◌≡◌, ◌⊎◌, ◌==◌, ◌&&◌, Bool, true, if◌then◌else◌}
 use Rattle.rdf_terms.specs.declared.term.Term.{Term}
 use Rattle.rdf_terms.specs.declared.triple.Triple.{Triple}
 use Rattle.rdf_terms.specs.Same.{same_term}
@@ -15,6 +15,10 @@ given f (Var v) = f v
 -- some assignment of terms to the pattern's variables gives the triple
 abbrev pub Matches : TriplePattern → Triple → Type 0
 Matches p t = (f : ℕ → Term) × (given f p.s ≡ t.s) × (given f p.p ≡ t.p) × (given f p.o ≡ t.o)
+
+-- the variable stands in the pattern
+abbrev pub Mentions : TriplePattern → ℕ → Type 0
+Mentions p v = (p.s ≡ Var v) ⊎ ((p.p ≡ Var v) ⊎ (p.o ≡ Var v))
 
 -- ---- the tests that decide it
 

@@ -8,7 +8,10 @@ use rdf_terms::{Memory, Term, Triple, is_same_term};
 use std::alloc::Global;
 
 /// The row extended by the pattern's variables so that it gives the triple; None exactly where no
-/// row that extends it does. The row is copied only where it is extended.
+/// row that extends it does (SPARQL 1.1 Query Language, section 18.3.1).
+///
+/// It costs at most six comparisons of terms; the row's cells are copied, with their texts shared,
+/// only where the row is extended, and of the triple only the terms that are bound.
 pub fn bind(
     alloc: Global,
     pattern: &TriplePattern,

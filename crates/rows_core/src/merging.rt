@@ -6,7 +6,8 @@ use crate::row::{Row, copy_cell};
 use rdf_terms::{Memory, Term, is_same_term};
 use std::alloc::Global;
 
-/// Whether the rows have one width and agree on each variable that both bind. No memory.
+/// Whether the rows have one width and agree on each variable that both bind (SPARQL 1.1 Query
+/// Language, section 18.3). It costs at most a comparison of terms a cell. No memory.
 pub fn compatible(a: &Row, b: &Row) -> bool
     ensures test { result ≡ spec.fits a.now b.now }
     ensures meaning { IsTrue result ↔ Compatible a.now b.now }
@@ -45,7 +46,8 @@ fn agree(a: &Option<Term>, b: &Option<Term>) -> bool
     }
 }
 
-/// The row with the bindings of both.
+/// The row with the bindings of both (SPARQL 1.1 Query Language, section 18.3). It costs a copy of
+/// each cell, with its texts shared.
 pub fn merge(alloc: Global, a: &Row, b: &Row) -> Result<Row, Memory>
     requires { spec.fits a.now b.now ≡ true }
     ensures merged { IfOk result (λ r. r ≡ spec.merged a.now b.now) }

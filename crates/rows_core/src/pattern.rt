@@ -44,7 +44,8 @@ impl TriplePattern {
     }
 }
 
-/// Whether some assignment of terms to the pattern's variables gives the triple. No memory.
+/// Whether some assignment of terms to the pattern's variables gives the triple (SPARQL 1.1 Query
+/// Language, section 18.3.1). It costs at most six comparisons of terms. No memory.
 pub fn match_triple(pattern: &TriplePattern, triple: &Triple) -> bool
     ensures test { result ≡ matches pattern.now triple.now }
     ensures meaning { IsTrue result ↔ Matches pattern.now triple.now }

@@ -53,7 +53,8 @@ impl Row {
         self.cells.as_slice()
     }
 
-    /// The row's cells at the selected variables, in that order; free where there is no such cell.
+    /// The row's cells at the selected variables, in that order (SPARQL 1.1 Query Language, section
+    /// 18.5, Project); free where there is no such cell. It costs a copy of each selected cell.
     pub fn project(&self, alloc: Global, select: &[u16]) -> Result<Row, Memory>
         ensures { IfOk result (λ r. r ≡ spec.projected select.now self.now) }
     {
@@ -61,7 +62,7 @@ impl Row {
         Ok(Row { cells })
     }
 
-    /// An equal row. Its texts are shared with this one.
+    /// An equal row. Its texts are shared with this one. It costs a copy of each cell.
     pub fn copy(&self, alloc: Global) -> Result<Row, Memory>
         ensures { IfOk result (λ r. r ≡ self.now) }
     {

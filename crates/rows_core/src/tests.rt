@@ -28,7 +28,9 @@ fn rows_are_made_copied_projected_and_merged(rt: HostRuntime) -> Result<(), Fail
     let swapped = row(&rt, Some("b"), Some("a"))?;
     assert!(rt; whole.project(rt.alloc(), &[1, 0])?.cells() == swapped.cells());
     assert!(rt; !compatible(&whole, &swapped));
-    if compatible(&left, &right) {
+    let fit = compatible(&left, &right);
+    assert!(rt; fit);
+    if fit {
         assert!(rt; merge(rt.alloc(), &left, &right)?.cells() == whole.cells());
     }
     Ok(())

@@ -1,6 +1,4 @@
 use Rattle.std.proofs.Common.{◌≡◌}
-use Rattle.algebra_core.specs.Graphs.{once}
-use Rattle.algebra_core.specs.Query.{same_row}
 use Rattle.algebra_core.proofs.evaluation.rows_of.Given as goal
 
 abbrev pub invariant-loop-cells : goal.invariant-loop-cells
