@@ -5,7 +5,7 @@ ghost use Rattle.iri_core.specs.Refusal.{is_excluded, is_letter, is_scheme_byte,
 use crate::parts::{first_of, is_at};
 use thiserror::Error;
 
-/// The text isn't an IRI reference; `at` is the place of the character that is refused, in bytes.
+/// The text isn't an IRI reference; `at` is the place of the fault in bytes, as `check` has it.
 #[derive(Clone, Copy, Debug, Drop, PartialEq, Eq, Error)]
 #[error("not an IRI reference, at byte {at}")]
 pub struct NotAnIri {

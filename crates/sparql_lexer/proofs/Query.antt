@@ -1,10 +1,11 @@
--- The rules of Turtle with their automaton, and what follows for its token lists.
+-- The rules of queries with their automaton, and what follows for its token lists.
 use Rattle.std.proofs.Common.{◌≡◌, List, [], ◌∷◌, ℕ, drop, true, false, refl}
 use Rattle.text_rules.specs.declared.class.Class.{Class}
 use Rattle.text_rules.specs.Utf8.{symbols_of}
 use Rattle.text_rules.specs.Rules.{Never, allows}
 use Rattle.text_rules.proofs.Lexicon.{Lexicon}
 use Rattle.text_rules.proofs.Unique as unique
+use Rattle.text_rules.proofs.Existence.{has_list}
 use Rattle.sparql_lexer.specs.declared.kind.QueryKind.{QueryKind}
 use Rattle.sparql_lexer.specs.declared.kind.QueryKind.TheVariants as kinds
 use Rattle.sparql_lexer.specs.declared.token.QueryToken.{QueryToken}
@@ -51,3 +52,7 @@ not_last k xs e = refl
 -- a text has one list of tokens
 pub one_token_list : (bytes : List ℕ) (a b : List QueryToken) → QueryTokens bytes a → QueryTokens bytes b → a ≡ b
 one_token_list bytes a b p q = unique.one_list rule_of token_of kinds.Bad kinds.End sole_kind false (skipped bytes) (symbols_of (drop (skipped bytes) bytes)) a b p q
+
+-- and it has one
+pub a_token_list : (bytes : List ℕ) → (tokens : List QueryToken) × QueryTokens bytes tokens
+a_token_list bytes = has_list query false (skipped bytes) (symbols_of (drop (skipped bytes) bytes))

@@ -4,6 +4,7 @@ pub mod Gaps
 pub mod Walls
 pub mod Loop
 pub mod Unique
+pub mod Existence
 pub mod Spelling
 pub mod Plain
 pub mod Lexicon

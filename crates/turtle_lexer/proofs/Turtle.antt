@@ -5,6 +5,7 @@ use Rattle.text_rules.specs.Utf8.{symbols_of}
 use Rattle.text_rules.specs.Rules.{Never, allows}
 use Rattle.text_rules.proofs.Lexicon.{Lexicon}
 use Rattle.text_rules.proofs.Unique as unique
+use Rattle.text_rules.proofs.Existence.{has_list}
 use Rattle.turtle_lexer.specs.declared.kind.TurtleKind.{TurtleKind}
 use Rattle.turtle_lexer.specs.declared.kind.TurtleKind.TheVariants as kinds
 use Rattle.turtle_lexer.specs.declared.token.Token.{Token}
@@ -51,3 +52,7 @@ not_last k xs e = refl
 -- a text has one list of tokens
 pub one_token_list : (bytes : List ℕ) (a b : List Token) → TurtleTokens bytes a → TurtleTokens bytes b → a ≡ b
 one_token_list bytes a b p q = unique.one_list rule_of token_of kinds.Bad kinds.End sole_kind false (skipped bytes) (symbols_of (drop (skipped bytes) bytes)) a b p q
+
+-- and it has one
+pub a_token_list : (bytes : List ℕ) → (tokens : List Token) × TurtleTokens bytes tokens
+a_token_list bytes = has_list turtle false (skipped bytes) (symbols_of (drop (skipped bytes) bytes))

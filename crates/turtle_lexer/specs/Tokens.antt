@@ -62,7 +62,7 @@ abbrev pub IsWithin : ℕ → ℕ → Next → Type 0
 IsWithin at len (nexts.Token t) = (at < t.to) × HasSpan len t
 IsWithin at len (nexts.Last t) = HasSpan len t
 
--- only the last token of a list is one of no bytes
+-- only the last token of a list is Bad or End
 abbrev pub IsPlaced : Next → Type 0
 IsPlaced (nexts.Token t) = is_last t.kind ≡ false
 IsPlaced (nexts.Last t) = is_last t.kind ≡ true

@@ -2,7 +2,8 @@ ghost use Rattle.std.specs.Prelude.{◌≡◌, ℕ, List};
 ghost use Rattle.turtle_lexer.specs.declared.token.Token.{Token};
 ghost use Rattle.turtle_lexer.specs.Tokens.{TurtleTokens};
 
-/// A text has one token list.
+/// A text has exactly one token list.
 pub fn one_token_list()
-    ensures { (bytes : List ℕ) (a b : List Token) → TurtleTokens bytes a → TurtleTokens bytes b → a ≡ b }
+    ensures present { (bytes : List ℕ) → (tokens : List Token) × TurtleTokens bytes tokens }
+    ensures only { (bytes : List ℕ) (a b : List Token) → TurtleTokens bytes a → TurtleTokens bytes b → a ≡ b }
 {}

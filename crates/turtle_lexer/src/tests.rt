@@ -25,3 +25,22 @@ fn cuts_where_the_longest_text_ends(rt: HostRuntime) -> Result<(), Fail> {
     }
     Ok(())
 }
+
+#[test]
+fn ends_in_bad_where_no_token_can_be_read(rt: HostRuntime) -> Result<(), Fail> {
+    use TurtleKind::*;
+    let tokens = lex_turtle(rt.alloc(), b"1 -2.5 a true ^^ ^")?;
+    let want = [
+        (Integer, 0, 1),
+        (Decimal, 2, 6),
+        (Word, 7, 8),
+        (Word, 9, 13),
+        (Mark, 14, 16),
+        (Bad, 17, 17),
+    ];
+    assert_eq!(rt; tokens.len(), want.len());
+    for (token, expected) in tokens.iter().zip(&want) {
+        assert_eq!(rt; (token.kind, token.from, token.to), *expected);
+    }
+    Ok(())
+}

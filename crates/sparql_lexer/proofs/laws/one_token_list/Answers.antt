@@ -1,5 +1,8 @@
-use Rattle.sparql_lexer.proofs.Query.{one_token_list}
+use Rattle.sparql_lexer.proofs.Query.{a_token_list, one_token_list}
 use Rattle.sparql_lexer.proofs.laws.one_token_list.Goals as goal
 
-pub returns : goal.returns
-returns c = one_token_list
+pub returns-clause-present : goal.returns-clause-present
+returns-clause-present c = a_token_list
+
+pub returns-clause-only : goal.returns-clause-only
+returns-clause-only c = one_token_list
