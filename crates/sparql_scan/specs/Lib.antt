@@ -1,0 +1,5 @@
+pub mod Iris
+pub mod Marks
+pub mod Names
+pub mod Scan
+pub mod Words

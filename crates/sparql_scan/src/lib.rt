@@ -1,0 +1,26 @@
+//! Queries, token by token, with what each token stands for.
+//!
+//! Promise: `scan` gives the tokens of a text up to the first that nothing may take, and the fault
+//! there (`specs/Scan.antt`): a place where no token can be read, a bracket past the limits, an IRI
+//! or a name that is refused, a label in two basic graph patterns. A token has its keyword or mark,
+//! its text with the escapes undone, its IRI in full, or the number of its variable.
+//! Not here: where tokens begin and end (`sparql_lexer`), and which follow one another
+//! (`sparql_parser`).
+//!
+//! Want of memory is `Memory`.
+#![tactic(auto)]
+
+mod fault;
+mod iris;
+mod kind;
+mod marks;
+mod names;
+mod scanning;
+mod state;
+#[cfg(test)]
+mod tests;
+mod words;
+
+pub use crate::fault::{Fault, ScanError};
+pub use crate::kind::{Kind, Token};
+pub use crate::scanning::{Scanned, scan};
