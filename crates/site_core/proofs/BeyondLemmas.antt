@@ -1,11 +1,11 @@
 -- The place of the fault in a file that goes on behind its first bytes.
 use Rattle.std.proofs.Common.{◌≡◌, ℕ, ◌+◌, ◌-◌, ◌<◌, ◌≤◌, suc, List, [], ◌∷◌, ◌++◌, length, take, drop, None, Ok, Err, replicate, refl, sym, ap, ◌∙◌, subst, arith, append_assoc, length-append, inl, inr}
-use Rattle.std.specs.Prelude.{◌⊎◌, true}
+use Rattle.std.specs.Prelude.{true}
 use Rattle.std.proofs.lemmas.Bool.{cond-true}
 use Rattle.std.proofs.lemmas.List.{length-replicate}
 use Rattle.site_core.specs.declared.spot.Spot.{Spot}
 use Rattle.site_core.specs.declared.spot.Spot.TheVariants.{First, Between}
-use Rattle.site_core.specs.Endings.{IsCutBody, IsCutFile, IsCutLink, LeadsTo}
+use Rattle.site_core.specs.Endings.{IsCutBody, LeadsTo}
 use Rattle.site_core.specs.Places.{Answer, BeyondAt, FaultAt, Look, On, Reads, SiteBad, is_lf_at, look, look_body, look_step, reads_end, reads_on}
 use Rattle.site_core.specs.Text.{Entry, SiteText, is_site_from, site_limit, site_text}
 use Rattle.site_core.proofs.Ends.{drop_line}
@@ -64,15 +64,14 @@ beyond_cut front done spot at full leads cut =
 
 -- ---- both lengths
 
-pub bad_within : (bytes : List ℕ) (a b : ℕ) → length bytes ≤ site_limit → FaultAt bytes a → a ≡ b → SiteBad bytes b ⊎ IsCutFile bytes b
-bad_within bytes a b within fault same = let P : ℕ → Type 0 = λ k. SiteBad bytes k ⊎ IsCutFile bytes k in subst P same (inl (inl (within, fault)))
+pub bad_within : (bytes : List ℕ) (a b : ℕ) → length bytes ≤ site_limit → FaultAt bytes a → a ≡ b → SiteBad bytes b
+bad_within bytes a b within fault same = let P : ℕ → Type 0 = λ k. SiteBad bytes k in subst P same (inl (within, fault))
 
-pub bad_beyond : (bytes front : List ℕ) (a b : ℕ) → front ≡ take site_limit bytes → site_limit < length bytes → BeyondAt front a ⊎ IsCutLink front a → a ≡ b → SiteBad bytes b ⊎ IsCutFile bytes b
+pub bad_beyond : (bytes front : List ℕ) (a b : ℕ) → front ≡ take site_limit bytes → site_limit < length bytes → BeyondAt front a → a ≡ b → SiteBad bytes b
 bad_beyond bytes front a b is past found same =
-    let P : ℕ → Type 0 = λ k. SiteBad bytes k ⊎ IsCutFile bytes k in
-    let Q : List ℕ → Type 0 = λ bs. BeyondAt bs a ⊎ IsCutLink bs a in
-    let here : BeyondAt (take site_limit bytes) a ⊎ IsCutLink (take site_limit bytes) a = subst Q is found in
-    subst P same (elim here [ inl beyond ↦ inl (inr (past, beyond)) | inr cut ↦ inr (past, cut) ])
+    let P : ℕ → Type 0 = λ k. SiteBad bytes k in
+    let Q : List ℕ → Type 0 = λ bs. BeyondAt bs a in
+    subst P same (inr (past, subst Q is found))
 
 pub site_kept : (entries : List Entry) (bytes : List ℕ) → SiteText entries bytes → (is_site_from None entries ≡ true) × (length (site_text entries) ≤ site_limit)
 site_kept entries bytes is = let P : List ℕ → Type 0 = λ bs. length bs ≤ site_limit in (is.site, subst P is.text is.within)

@@ -1,5 +1,5 @@
 -- What is found at a line stays, whatever follows the bytes.
-use Rattle.std.proofs.Common.{◌≡◌, ℕ, ◌+◌, ◌^◌, ◌<◌, ◌≤◌, suc, zero, List, [], ◌∷◌, ◌++◌, length, take, drop, true, false, Some, None, Ok, Err, refl, sym, ap, ◌∙◌, subst, arith, rules, append-nil, length-drop}
+use Rattle.std.proofs.Common.{◌≡◌, ℕ, ◌+◌, ◌^◌, ◌<◌, ◌≤◌, suc, zero, List, [], ◌∷◌, ◌++◌, length, take, drop, true, false, Some, None, Ok, Err, refl, sym, ap, ◌∙◌, subst, arith, rules, append-nil, length-append, length-drop}
 use Rattle.std.specs.Prelude.{◌==◌, option_map, position, unwrap_or, if◌then◌else◌}
 use Rattle.std.proofs.lemmas.Bool.{cond-true, cond-false, cond_both}
 use Rattle.std.proofs.lemmas.List.{drop-drop, drop-append-le, take-append-le, drop_all}
@@ -16,7 +16,8 @@ use Rattle.std.proofs.lemmas.Option.{slice_get_past}
 use Rattle.site_core.specs.Fields.{is_lf}
 use Rattle.site_core.specs.Lines.{step}
 use Rattle.site_core.specs.Places.{Answer, On, Reads, Shows, is_lf_at, look, look_behind, look_body, look_line, look_step, reads_end, reads_on}
-use Rattle.site_core.specs.Text.{Entry}
+use Rattle.site_core.specs.Text.{Entry, site_limit}
+use Rattle.site_core.proofs.Sound.{Fits, fits_on}
 use Rattle.site_core.proofs.Ends.{position-append, split_line}
 
 pub look-more : (done : List Entry) (spot : Spot) (at : ℕ) (rest more : List ℕ) (n : ℕ) → position is_lf rest ≡ Some n → look done spot at (rest ++ more) ≡ look_step done at (at + suc n) (drop (suc n) rest ++ more) (step done spot (take n rest))
@@ -196,6 +197,12 @@ small_rest bytes rest next is_rest small = let P : List ℕ → Type 0 = λ bs. 
 -- a line leads on
 pub leads_on : (bytes : List ℕ) (done new : List Entry) (spot next_spot : Spot) (at next : ℕ) → LeadsTo bytes done spot at → Finds done spot at bytes new (found.Line next_spot next) → LeadsTo bytes new next_spot next
 leads_on bytes done new spot next_spot at next leads line more answer reads = leads more answer (reads_on (line.2 more) reads)
+
+-- an allowed line leaves the entries a site
+pub fits_next : (bytes : List ℕ) (done new : List Entry) (spot next_spot : Spot) (at next : ℕ) → length bytes ≤ site_limit → Fits done spot → Finds done spot at bytes new (found.Line next_spot next) → Fits new next_spot
+fits_next bytes done new spot next_spot at next within fits line =
+    let rest = drop at bytes ++ [] in
+    fits_on done new spot next_spot at next rest (drop next bytes ++ []) (omega (arith, within, length-append (drop at bytes) [], length-drop at bytes)) fits (line.2 [])
 
 pub leads_whole : (bytes : List ℕ) (done new : List Entry) (spot : Spot) (at : ℕ) → LeadsTo bytes done spot at → Finds done spot at bytes new found.Last → Reads [] First 0 bytes (Ok new)
 leads_whole bytes done new spot at leads last =

@@ -59,7 +59,7 @@ grows_to_end done spot part more plain ends =
 
 -- ---- words
 
-begins_is : (word part : List ℕ) → begins word part ≡ true → word ≡ part ++ drop (length part) word
+pub begins_is : (word part : List ℕ) → begins word part ≡ true → word ≡ part ++ drop (length part) word
 begins_is word part h =
     sym (take-append-drop (length part) word) ∙ ap (λ bs. bs ++ drop (length part) word) (sym ((bytes_eq-Decides part (take (length part) word)).0 h))
 
@@ -67,11 +67,11 @@ take_part : (part more : List ℕ) → take (length part) (part ++ more) ≡ par
 take_part [] more = refl
 take_part (b ∷ part) more = ap (λ bs. b ∷ bs) (take_part part more)
 
-false_unless : (a b : List ℕ) → (a ≡ b → ⊥) → bytes_eq a b ≡ false
+pub false_unless : (a b : List ℕ) → (a ≡ b → ⊥) → bytes_eq a b ≡ false
 false_unless a b apart =
     elim (cases_Bool (bytes_eq a b)) [ inl same ↦ absurd (apart ((bytes_eq-Decides a b).0 same)) | inr other ↦ other ]
 
-begins_not : (word part more : List ℕ) → begins word part ≡ false → word ≡ part ++ more → ⊥
+pub begins_not : (word part more : List ℕ) → begins word part ≡ false → word ≡ part ++ more → ⊥
 begins_not word part more h is =
     let front : take (length part) word ≡ part = ap (take (length part)) is ∙ take_part part more in
     let same : begins word part ≡ true = (bytes_eq-Decides part (take (length part) word)).1 (sym front) in
@@ -137,7 +137,7 @@ between_stays done part no_end no_link none more =
 abbrev pub Tells : List Entry → Spot → List ℕ → Bool → Type 0
 Tells done spot part grows = MatchBool grows (CanGrow done spot part) (CannotGrow done spot part)
 
-tells : (done : List Entry) (spot : Spot) (part : List ℕ) (grows : Bool) → (grows ≡ true → CanGrow done spot part) → (grows ≡ false → CannotGrow done spot part) → Tells done spot part grows
+pub tells : (done : List Entry) (spot : Spot) (part : List ℕ) (grows : Bool) → (grows ≡ true → CanGrow done spot part) → (grows ≡ false → CannotGrow done spot part) → Tells done spot part grows
 tells done spot part true yes_ no_ = yes_ refl
 tells done spot part false yes_ no_ = no_ refl
 

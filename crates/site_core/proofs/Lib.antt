@@ -8,4 +8,10 @@ pub mod StepLemmas
 pub mod BeyondLemmas
 pub mod Lookups
 pub mod Growing
+pub mod ParsedUrls
+pub mod Spelled
+pub mod Cuts
+pub mod AddressCuts
+pub mod LinkCuts
+pub mod LinkGrowth
 pub mod OpenLines

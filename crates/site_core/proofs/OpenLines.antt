@@ -1,16 +1,15 @@
 -- The place of the fault where the first bytes of a file end within a line.
 use Rattle.std.proofs.Common.{◌≡◌, ℕ, ◌+◌, ◌-◌, ◌<◌, ◌≤◌, suc, zero, List, [], ◌∷◌, ◌++◌, length, take, drop, get_or, Bool, true, false, Option, Some, None, Err, refl, sym, ap, ◌∙◌, subst, arith, inl, inr}
-use Rattle.std.specs.Prelude.{not, ◌⊎◌, position}
+use Rattle.std.specs.Prelude.{not, position}
 use Rattle.std.specs.List.{list_all, position_or_len}
 use Rattle.std.proofs.lemmas.Bool.{and_parts, cases_lt, cond_below}
 use Rattle.std.proofs.lemmas.List.{get_or_append_left, take_all}
 use Rattle.std.proofs.lemmas.List.Quantifiers.{position-Some}
 use Rattle.std.proofs.Math.Seq.{take-append-add}
 use Rattle.site_core.specs.declared.spot.Spot.{Spot}
-use Rattle.site_core.specs.declared.spot.Spot.TheVariants.{Between}
-use Rattle.site_core.specs.Endings.{IsCutLink, LeadsTo}
+use Rattle.site_core.specs.Endings.{LeadsTo}
 use Rattle.site_core.specs.Fields.{is_lf}
-use Rattle.site_core.specs.Growth.{CanGrow, CannotGrow, IsLinkPart}
+use Rattle.site_core.specs.Growth.{CanGrow, CannotGrow}
 use Rattle.site_core.specs.Lines.{step}
 use Rattle.site_core.specs.Places.{Answer, BeyondAt, Shows, look, look_line, look_step, reads_end}
 use Rattle.site_core.specs.Text.{Entry, site_limit}
@@ -70,27 +69,18 @@ none_open front done spot at full leads none grows =
           other.2 (cc),
     )
 
-leads_between : (front : List ℕ) (done : List Entry) (spot : Spot) (at : ℕ) → spot ≡ Between → LeadsTo front done spot at → LeadsTo front done Between at
-leads_between front done spot at is leads = let P : Spot → Type 0 = λ s. LeadsTo front done s at in subst P is leads
+pub open_grows : (front : List ℕ) (done : List Entry) (spot : Spot) (at : ℕ) → length front ≡ site_limit → LeadsTo front done spot at → position is_lf (drop at front) ≡ None → Tells done spot (drop at front) true → BeyondAt front (length front)
+open_grows front done spot at full leads none grows = none_open front done spot at full leads none grows
 
-cut_link : (front : List ℕ) (done : List Entry) (spot : Spot) (at place : ℕ) → LeadsTo front done spot at → position is_lf (drop at front) ≡ None → IsLinkPart spot (drop at front) → (place ≡ at) ⊎ (place ≡ site_limit) → IsCutLink front place
-cut_link front done spot at place leads none link is =
-    record { done = done; line = at; leads = leads_between front done spot at link.0 leads; unended = none; link = (refl, link.1, link.2); place = is }
-
-pub open_grows : (front : List ℕ) (done : List Entry) (spot : Spot) (at : ℕ) → length front ≡ site_limit → LeadsTo front done spot at → position is_lf (drop at front) ≡ None → IsLinkPart spot (drop at front) ⊎ Tells done spot (drop at front) true → BeyondAt front (length front) ⊎ IsCutLink front (length front)
-open_grows front done spot at full leads none (inl link) = inr (cut_link front done spot at (length front) leads none link (inr full))
-open_grows front done spot at full leads none (inr grows) = inl (none_open front done spot at full leads none grows)
-
-pub open_stays : (front : List ℕ) (done : List Entry) (spot : Spot) (at place : ℕ) → place ≡ at → LeadsTo front done spot at → position is_lf (drop at front) ≡ None → IsLinkPart spot (drop at front) ⊎ Tells done spot (drop at front) false → BeyondAt front place ⊎ IsCutLink front place
-open_stays front done spot at place is leads none (inl link) = inr (cut_link front done spot at place leads none link (inl is))
-open_stays front done spot at place is leads none (inr stays) =
-    let P : ℕ → Type 0 = λ k. BeyondAt front k ⊎ IsCutLink front k in
-    subst P (sym is) (inl (inl (shown_open front done spot at leads none stays)))
+pub open_stays : (front : List ℕ) (done : List Entry) (spot : Spot) (at place : ℕ) → place ≡ at → LeadsTo front done spot at → position is_lf (drop at front) ≡ None → Tells done spot (drop at front) false → BeyondAt front place
+open_stays front done spot at place is leads none stays =
+    let P : ℕ → Type 0 = λ k. BeyondAt front k in
+    subst P (sym is) (inl (shown_open front done spot at leads none stays))
 
 -- what the test told, of the bytes as the code has them
-pub open_at : (done seen : List Entry) (spot : Spot) (part seen_part : List ℕ) (grows is : Bool) → seen ≡ done → seen_part ≡ part → grows ≡ is → IsLinkPart spot seen_part ⊎ Tells seen spot seen_part grows → IsLinkPart spot part ⊎ Tells done spot part is
+pub open_at : (done seen : List Entry) (spot : Spot) (part seen_part : List ℕ) (grows is : Bool) → seen ≡ done → seen_part ≡ part → grows ≡ is → Tells seen spot seen_part grows → Tells done spot part is
 open_at done seen spot part seen_part grows is same_done same_part same told =
-    let P : List Entry → Type 0 = λ ds. IsLinkPart spot seen_part ⊎ Tells ds spot seen_part grows in
-    let Q : List ℕ → Type 0 = λ bs. IsLinkPart spot bs ⊎ Tells done spot bs grows in
-    let R : Bool → Type 0 = λ b. IsLinkPart spot part ⊎ Tells done spot part b in
+    let P : List Entry → Type 0 = λ ds. Tells ds spot seen_part grows in
+    let Q : List ℕ → Type 0 = λ bs. Tells done spot bs grows in
+    let R : Bool → Type 0 = λ b. Tells done spot part b in
     subst R same (subst Q same_part (subst P same_done told))

@@ -292,8 +292,21 @@ look_line_sound : (done : List Entry) (spot : Spot) (at : ℕ) (rest : List ℕ)
 look_line_sound done spot at rest small fits None e = tt
 look_line_sound done spot at rest small fits (Some n) e = line_sound done spot rest at n small fits e (step done spot (take n rest)) (step_sound done spot (take n rest) fits)
 
-look_sound : (done : List Entry) (spot : Spot) (at : ℕ) (rest : List ℕ) → length rest < 2 ^ 64 → Fits done spot → LookSound done spot rest (look done spot at rest)
+pub look_sound : (done : List Entry) (spot : Spot) (at : ℕ) (rest : List ℕ) → length rest < 2 ^ 64 → Fits done spot → LookSound done spot rest (look done spot at rest)
 look_sound done spot at rest small fits = look_line_sound done spot at rest small fits (position is_lf rest) refl
+
+-- what is read stays a site
+pub fits_on : (done new : List Entry) (spot next : Spot) (at place : ℕ) (rest more : List ℕ) → length rest < 2 ^ 64 → Fits done spot → look done spot at rest ≡ On new next place more → Fits new next
+fits_on done new spot next at place rest more small fits found =
+    let P : Look → Type 0 = LookSound done spot rest in
+    let sound : LookSound done spot rest (On new next place more) = subst P found (look_sound done spot at rest small fits) in
+    sound.0
+
+pub fits_site : (done : List Entry) (spot : Spot) → Fits done spot → is_site_from None done ≡ true
+fits_site done First fits = let P : List Entry → Type 0 = λ ds. is_site_from None ds ≡ true in subst P (sym fits) refl
+fits_site done Between fits = fits
+fits_site done (Named link) fits = fits.0
+fits_site done (Headed link reply) fits = fits.0
 
 -- ---- all lines
 

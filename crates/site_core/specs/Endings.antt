@@ -1,11 +1,10 @@
 -- What reading the lines of some bytes finds, where further bytes may follow them.
-use Rattle.std.specs.Prelude.{◌≡◌, ◌⊎◌, ◌<◌, ◌≤◌, ℕ, suc, List, [], ◌++◌, length, take, drop, true, false, position, Some, None, Result, Ok, Err}
+use Rattle.std.specs.Prelude.{◌≡◌, ◌<◌, ◌≤◌, ℕ, suc, List, [], ◌++◌, length, take, drop, true, false, position, Some, None, Result, Ok, Err}
 use Rattle.link_uri.specs.declared.heard.Reply.{Reply}
 use Rattle.site_core.specs.Fields.{is_lf}
-use Rattle.site_core.specs.Growth.{IsLinkPart}
 use Rattle.site_core.specs.Lines.{step}
 use Rattle.site_core.specs.Places.{Answer, On, Reads, Shows, is_lf_at, look}
-use Rattle.site_core.specs.Text.{Entry, site_limit}
+use Rattle.site_core.specs.Text.{Entry, is_site_from, site_limit}
 use Rattle.site_core.specs.declared.reading.Body.{Body as Behind}
 use Rattle.site_core.specs.declared.reading.Body.TheVariants as behind
 use Rattle.site_core.specs.declared.reading.Ending.{Ending}
@@ -13,7 +12,7 @@ use Rattle.site_core.specs.declared.reading.Ending.TheVariants as ending
 use Rattle.site_core.specs.declared.reading.Found.{Found}
 use Rattle.site_core.specs.declared.reading.Found.TheVariants as found
 use Rattle.site_core.specs.declared.spot.Spot.{Spot}
-use Rattle.site_core.specs.declared.spot.Spot.TheVariants.{First, Between}
+use Rattle.site_core.specs.declared.spot.Spot.TheVariants.{First}
 use Rattle.site_core.specs.declared.spot.Step.TheVariants.{Body}
 
 -- the rest has a whole `body` line at its beginning, and no more bytes than that says
@@ -48,18 +47,5 @@ LeadsTo bytes done spot at = (more : List ℕ) (answer : Result (List Entry) ℕ
 abbrev pub EndsSo : List ℕ → Ending → Type 0
 EndsSo bytes (ending.Whole entries) = Reads [] First 0 bytes (Ok entries.items)
 EndsSo bytes (ending.Fault at) = Shows bytes at
-EndsSo bytes (ending.Unended line) = (line.at ≤ length bytes) × LeadsTo bytes line.entries.items line.spot line.at × (position is_lf (drop line.at bytes) ≡ None)
+EndsSo bytes (ending.Unended line) = (line.at ≤ length bytes) × LeadsTo bytes line.entries.items line.spot line.at × (position is_lf (drop line.at bytes) ≡ None) × (length bytes ≤ site_limit → is_site_from None line.entries.items ≡ true)
 EndsSo bytes (ending.Cut at) = (at ≤ length bytes) × ((done : List Entry) × (spot : Spot) × LeadsTo bytes done spot at × IsCutBody done spot (drop at bytes))
-
--- the bytes end within a link line, behind lines that are allowed; the place is that line's beginning or the most that a file may have
-pub record IsCutLink (front : List ℕ) (at : ℕ) : Type 0 where
-  pub done : List Entry
-  pub line : ℕ
-  pub leads : LeadsTo front done Between line
-  pub unended : position is_lf (drop line front) ≡ None
-  pub link : IsLinkPart Between (drop line front)
-  pub place : (at ≡ line) ⊎ (at ≡ site_limit)
-
--- a file that is too long, with a link line where the most bytes end
-abbrev pub IsCutFile : List ℕ → ℕ → Type 0
-IsCutFile bytes at = (site_limit < length bytes) × IsCutLink (take site_limit bytes) at

@@ -1,14 +1,13 @@
 -- Which parts of a line, cut off before its end, some allowed line begins with (docs/FORMATS.md, "Site file").
-use Rattle.std.specs.Prelude.{◌≡◌, ◌==◌, ◌<◌, ℕ, List, ◌++◌, length, take, codes, bytes_eq, slice_index, nat_le, Bool, true, false, not, ◌&&◌, ◌||◌, Option, Some, None, Result, Err, if◌then◌else◌}
-use Rattle.std.specs.List.{list_all}
+use Rattle.std.specs.Prelude.{◌≡◌, ◌==◌, ℕ, List, [], ◌∷◌, ◌++◌, length, take, codes, bytes_eq, slice_index, nat_le, Bool, true, false, not, ◌&&◌, ◌||◌, Option, Some, None, Result, Err, if◌then◌else◌}
+use Rattle.std.specs.List.{list_all, list_any}
 use Rattle.std.specs.Option.{is_none}
 use Rattle.link_uri.specs.declared.heard.Reply.{Reply}
-use Rattle.site_core.specs.Fields.{behind, is_digit, is_number, is_printable, is_status, number_of}
+use Rattle.site_core.specs.Fields.{behind, is_digit, is_number, is_printable, is_site_link, is_status, number_of}
 use Rattle.site_core.specs.Lines.{step}
 use Rattle.site_core.specs.Places.{Reads}
-use Rattle.site_core.specs.Text.{Entry}
+use Rattle.site_core.specs.Text.{Entry, comes_after}
 use Rattle.site_core.specs.declared.spot.Spot.{Spot}
-use Rattle.site_core.specs.declared.spot.Spot.TheVariants.{Between}
 use Rattle.site_core.specs.declared.spot.Step.TheVariants.{Misfit}
 
 -- ---- what it means
@@ -20,10 +19,6 @@ CanGrow done spot part = (more : List ℕ) × ((at : ℕ) → (answer : Result (
 -- no line that begins with the part is allowed there
 abbrev pub CannotGrow : List Entry → Spot → List ℕ → Type 0
 CannotGrow done spot part = (more : List ℕ) → step done spot (part ++ more) ≡ Misfit
-
--- the part of a link line
-abbrev pub IsLinkPart : Spot → List ℕ → Type 0
-IsLinkPart spot part = (spot ≡ Between) × (0 < length part) × (take 5 part ≡ take (length part) (codes "link "))
 
 -- ---- the tests
 
@@ -62,3 +57,20 @@ abbrev pub field_grows : Reply → List ℕ → Bool
 field_grows reply part = ((is_none reply.media && (is_none reply.coding && is_none reply.location)) && word_grows value_begins (codes "type ") part)
     || (((is_none reply.coding && is_none reply.location) && word_grows value_begins (codes "coding ") part)
     || ((is_none reply.location && word_grows value_begins (codes "location ") part) || word_grows number_begins (codes "body ") part))
+
+-- ---- the link of a link line
+
+-- what a part of a link goes on with to a whole one: within a path or a query, behind an authority, within a port, a domain, an address in brackets (URL Standard, section 4.5)
+abbrev pub endings : List (List ℕ)
+endings = codes "~" ∷ codes "/" ∷ codes "1/" ∷ codes "~/" ∷ codes "]/" ∷ codes "1]/" ∷ codes ":]/" ∷ codes "::]/" ∷ codes ":1::]/" ∷ codes "1::]/" ∷ codes ":1:1]/" ∷ codes "1:1]/" ∷ codes ":1]/" ∷ []
+
+abbrev pub ends_in_link : List ℕ → Bool
+ends_in_link text = list_any (λ ending. is_site_link (text ++ ending)) endings
+
+-- the link before begins with the text
+abbrev pub begins_last : Option (List ℕ) → List ℕ → Bool
+begins_last None text = false
+begins_last (Some before) text = begins before text
+
+abbrev pub link_grows : Option (List ℕ) → List ℕ → Bool
+link_grows before text = begins_last before text || (comes_after before text && (begins (codes "http://") text || ends_in_link text))

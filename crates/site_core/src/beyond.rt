@@ -1,21 +1,15 @@
-ghost use Rattle.std.specs.Prelude.{◌≡◌, ◌⊎◌, false, codes, IfOk, MatchBool};
+ghost use Rattle.std.specs.Prelude.{◌≡◌, true, false, None, codes, IfOk, MatchBool};
 ghost use Rattle.site_core.specs.Fields.{number_of};
 ghost use Rattle.site_core.specs.Growth as spec;
+ghost use Rattle.site_core.specs.Text.{is_site_from};
 ghost use Rattle.site_core.specs.declared.spot.Spot.TheVariants.{Between};
 
-use crate::fields::{
-    all_printable, behind, is_digit, is_number, is_site_link, is_status, number_of,
-};
+use crate::fields::{all_printable, behind, is_digit, is_number, is_status, number_of};
+use crate::link_part::link_grows;
 use crate::spot::Spot;
 use link_uri::Reply;
 use rdf_terms::{Memory, TextBuf};
 use std::alloc::Global;
-
-// Endings of which one makes a site link of each beginning of one: within a path, a host, a port,
-// and an address in brackets.
-const ENDINGS: [&[u8]; 10] = [
-    b"", b"~", b"~/", b"/", b"1/", b"81/", b"]/", b"1]/", b":1]/", b"::]/",
-];
 
 /// Whether a line that may stand at the spot begins with this part of one.
 pub(crate) fn can_grow(
@@ -24,8 +18,8 @@ pub(crate) fn can_grow(
     spot: &Spot,
     part: &[u8],
 ) -> Result<bool, Memory>
-    ensures { IfOk result (λ grows. spec.IsLinkPart spot.now part.now
-        ⊎ MatchBool grows (spec.CanGrow entries.now spot.now part.now) (spec.CannotGrow entries.now spot.now part.now)) }
+    requires { is_site_from None entries.now ≡ true }
+    ensures { IfOk result (λ grows. MatchBool grows (spec.CanGrow entries.now spot.now part.now) (spec.CannotGrow entries.now spot.now part.now)) }
 {
     match spot {
         Spot::First => Ok(begins(b"site 1", part)),
@@ -45,44 +39,20 @@ fn link_line_can_grow(
     entries: &[(TextBuf, Reply)],
     part: &[u8],
 ) -> Result<bool, Memory>
-    requires { spec.begins (codes "end") part.now ≡ false }
-    ensures { IfOk result (λ grows. spec.IsLinkPart Between part.now
-        ⊎ MatchBool grows (spec.CanGrow entries.now Between part.now) (spec.CannotGrow entries.now Between part.now)) }
+    requires site { is_site_from None entries.now ≡ true }
+    requires other { spec.begins (codes "end") part.now ≡ false }
+    ensures { IfOk result (λ grows. MatchBool grows (spec.CanGrow entries.now Between part.now) (spec.CannotGrow entries.now Between part.now)) }
 {
     if begins(b"link ", part) {
         return Ok(true);
     }
     match behind(b"link ", part) {
-        Some(text) => link_can_grow(alloc, entries, text),
+        Some(text) => link_grows(alloc, entries, text),
         None => Ok(false),
     }
 }
 
-// The link before it may go on with a `~`; what comes before it by another byte does for ever.
-fn link_can_grow(alloc: Global, entries: &[(TextBuf, Reply)], text: &[u8]) -> Result<bool, Memory> {
-    if let Some(before) = entries.last() {
-        let before = before.0.as_str().as_bytes();
-        if before.starts_with(text) {
-            return Ok(true);
-        }
-        if before.cmp(text).is_gt() {
-            return Ok(false);
-        }
-    }
-    if b"http://".starts_with(text) {
-        return Ok(true);
-    }
-    for ending in ENDINGS {
-        let mut link = Vec::from_slice(alloc, text)?;
-        link.extend_from_slice(ending)?;
-        if is_site_link(alloc, link.as_slice())? {
-            return Ok(true);
-        }
-    }
-    Ok(false)
-}
-
-fn begins(word: &[u8], part: &[u8]) -> bool
+pub(crate) fn begins(word: &[u8], part: &[u8]) -> bool
     ensures { result ≡ spec.begins word.now part.now }
 {
     word.starts_with(part)

@@ -12,6 +12,7 @@ mod beyond;
 mod fault;
 mod fields;
 mod laws;
+mod link_part;
 mod reading;
 mod site;
 mod spot;
@@ -21,6 +22,7 @@ mod tests;
 mod writing;
 
 pub use crate::fault::SiteFault;
+pub use crate::laws::{a_fault_has_one_place, a_site_text_has_no_fault, a_text_has_one_site};
 pub use crate::reading::read_site;
 pub use crate::site::Site;
 pub use crate::writing::write_site;

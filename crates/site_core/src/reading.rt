@@ -1,6 +1,6 @@
 ghost use Rattle.std.specs.Prelude.{◌≡◌, ◌≤◌, ◌<◌, ◌^◌, ℕ, List, take, drop, length, position, IfOk, Err, ◌==◌, ◌⊎◌, if◌then◌else◌};
 ghost use Rattle.site_core.specs.Fields.{is_lf};
-ghost use Rattle.site_core.specs.Endings.{EndsSo, Finds, HasBody, IsCutFile, IsCutLink};
+ghost use Rattle.site_core.specs.Endings.{EndsSo, Finds, HasBody};
 ghost use Rattle.site_core.specs.Places.{BeyondAt, SiteBad};
 ghost use Rattle.site_core.specs.declared.reading.Found.TheVariants.{Last, Fault};
 ghost use Rattle.site_core.specs.Text.{SiteText, site_limit};
@@ -53,8 +53,7 @@ enum Found {
 /// Reads a site file. It takes time by the number of bytes, and copies each body once.
 pub fn read_site(alloc: Global, bytes: &[u8]) -> Result<Site, SiteFault>
     ensures site { IfOk result (λ site. SiteText site bytes.now) }
-    ensures bad { (at : ℕ) → result ≡ Err (SiteFault.Bad at)
-        → SiteBad bytes.now at ⊎ IsCutFile bytes.now at }
+    ensures bad { (at : ℕ) → result ≡ Err (SiteFault.Bad at) → SiteBad bytes.now at }
 {
     if bytes.len() > SITE_LIMIT {
         let at = fault_beyond(alloc, front(bytes, SITE_LIMIT))?;
@@ -71,7 +70,7 @@ pub fn read_site(alloc: Global, bytes: &[u8]) -> Result<Site, SiteFault>
 // The place of the fault in a file that goes on behind these first bytes.
 fn fault_beyond(alloc: Global, front: &[u8]) -> Result<usize, Memory>
     requires { length front.now ≡ site_limit }
-    ensures { IfOk result (λ at. BeyondAt front.now at ⊎ IsCutLink front.now at) }
+    ensures { IfOk result (BeyondAt front.now) }
 {
     match read_lines(alloc, front)? {
         Ending::Fault(at) => Ok(at),
@@ -84,7 +83,7 @@ fn fault_beyond(alloc: Global, front: &[u8]) -> Result<usize, Memory>
 fn fault_at_open_line(alloc: Global, line: OpenLine, front: &[u8]) -> Result<usize, Memory>
     requires full { length front.now ≡ site_limit }
     requires ends { EndsSo front.now (Ending.Unended line) }
-    ensures { IfOk result (λ at. BeyondAt front.now at ⊎ IsCutLink front.now at) }
+    ensures { IfOk result (BeyondAt front.now) }
 {
     let part = tail(front, line.at);
     let grows = can_grow(alloc, line.entries.as_slice(), &line.spot, part)?;

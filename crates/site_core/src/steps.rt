@@ -65,7 +65,7 @@ fn with_link(alloc: Global, entries: &[(TextBuf, Reply)], text: &[u8]) -> Result
 }
 
 // Whether a link text comes after the last of the entries.
-fn follows(entries: &[(TextBuf, Reply)], text: &[u8]) -> bool
+pub(crate) fn follows(entries: &[(TextBuf, Reply)], text: &[u8]) -> bool
     ensures { result ≡ comes_after (spec.last_link None entries.now) text.now }
 {
     match entries.last() {

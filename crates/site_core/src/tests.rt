@@ -1,3 +1,4 @@
+use crate::link_part::link_grows;
 use crate::{SiteFault, read_site, write_site};
 use std::test::Fail;
 
@@ -67,6 +68,49 @@ const FAULTS: [(&str, &str, usize); 52] = [
     ("site 1", "\u{feff}site 1", 0),
 ];
 
+// Parts of links, and whether some site link begins so.
+const PARTS: [(&str, bool); 30] = [
+    ("", true),
+    ("http:", true),
+    ("https://a", false),
+    ("http://a", true),
+    ("http://A", false),
+    ("http://256.1.", true),
+    ("http://a%", false),
+    ("http://u@a", false),
+    ("http://a:", true),
+    ("http://a:80", true),
+    ("http://a:08", false),
+    ("http://a:65536", false),
+    ("http://a/..", true),
+    ("http://a/./", false),
+    ("http://a/%2e", true),
+    ("http://a/%2e/", false),
+    ("http://a/?", true),
+    ("http://a/?'", false),
+    ("http://a/#", false),
+    ("http://[0", true),
+    ("http://[0:0:0", true),
+    ("http://[0:0:0:0", false),
+    ("http://[1:2:3:4:5:0", true),
+    ("http://[1::0", false),
+    ("http://[0:0:1::2:3", true),
+    ("http://[0:0:1::2:3:4", false),
+    ("http://[1:2:3:4:5::6:", false),
+    ("http://[1:2:3:4:5:6:7", true),
+    ("http://[fffff", false),
+    ("http://[::1]:", true),
+];
+
+// The same behind the link `http://a.test/2`.
+const LATER_PARTS: [(&str, bool); 5] = [
+    ("http://a.test/1", false),
+    ("http://a.test/2", true),
+    ("http://a.", true),
+    ("http://a.test:", true),
+    ("http://0", false),
+];
+
 #[test]
 fn writes_what_was_read(rt: HostRuntime) -> Result<(), Fail> {
     for text in [ANN, TWO, "site 1\nend\n"] {
@@ -102,6 +146,23 @@ fn places_each_fault(rt: HostRuntime) -> Result<(), Fail> {
             Err(SiteFault::Bad { at }) => assert_eq!(rt; at, place, "{new}"),
             _ => return Err("no fault was told")?,
         }
+    }
+    Ok(())
+}
+
+#[test]
+fn tells_which_parts_go_on(rt: HostRuntime) -> Result<(), Fail> {
+    for (part, grows) in PARTS {
+        assert_eq!(rt;
+            link_grows(rt.alloc(), &[], part.as_bytes())?,
+            grows,
+            "{part}"
+        );
+    }
+    let site = read_site(rt.alloc(), TWO.as_bytes())?;
+    for (part, grows) in LATER_PARTS {
+        let told = link_grows(rt.alloc(), site.entries(), part.as_bytes())?;
+        assert_eq!(rt; told, grows, "{part}");
     }
     Ok(())
 }

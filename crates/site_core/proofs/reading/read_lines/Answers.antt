@@ -1,7 +1,7 @@
 use Rattle.std.proofs.Common.{subst}
 use Rattle.site_core.specs.declared.reading.Found.{Found}
 use Rattle.site_core.specs.Endings.{Finds}
-use Rattle.site_core.proofs.Following.{leads_fault, leads_on, leads_whole}
+use Rattle.site_core.proofs.Following.{fits_next, leads_fault, leads_on, leads_whole}
 use Rattle.site_core.proofs.reading.read_lines.Goals as goal
 
 pub loop-entries-preserved : goal.loop-entries-preserved
@@ -10,6 +10,7 @@ loop-entries-preserved c =
     let line = subst P c.in-Line.is c.in_ok-next_spot.ensures in
     record {
       within = line.1;
+      sites = λ within. fits_next c.args.bytes.now c.loop-entries.entries.items c.read_line.new.entries.items c.loop-entries.spot c.in-Line.next_spot c.loop-entries.at c.in-Line.next within (c.loop-entries.invariant.sites within) line;
       leads = leads_on c.args.bytes.now c.loop-entries.entries.items c.read_line.new.entries.items c.loop-entries.spot c.in-Line.next_spot c.loop-entries.at c.in-Line.next c.loop-entries.invariant.leads line;
     }
 
