@@ -7,8 +7,8 @@ fn iri(alloc: Global, text: &str) -> Result<Term, Fail> {
     Ok(Term::Iri(TextBuf::from_str(alloc, text)?))
 }
 
-// The documents of the third site of the worked rows: subject, predicate, object in order, each
-// link once, the fragment left out, and nothing for a literal or for another scheme.
+// Subject, predicate and object in order, each link once, the fragment left out, and nothing for a
+// literal or for another scheme.
 #[test]
 fn names_each_link_once_in_order(rt: HostRuntime) -> Result<(), Fail> {
     let alloc = rt.alloc();

@@ -29,8 +29,8 @@ pub struct Entry {
     pub found: Found,
 }
 
-/// The record of a run: what was found, in the order of settling, and the links that were queued
-/// and never taken, in the order in which they were queued.
+/// The record of a run: what was found, in the order of settling, and the links that are still
+/// queued, in the order in which they came.
 #[derive(Debug, Drop)]
 pub struct Record {
     pub entries: Seq<Entry>,

@@ -47,8 +47,8 @@ made_cases before o [] (row ∷ rest) e f d =
 pub made_due : (before : List ℕ) (o : Output) → IsDue before o → IsDue before (with_text o)
 made_due before o d = made_cases before o o.pending (drop o.handed o.rows) refl refl d
 
-taken_due : (before : List ℕ) (o : Output) (n faults : ℕ) → IsDue before o → IsDue before (record o { pending = drop n o.pending; content = append_known o.content (take n o.pending); faults = faults })
-taken_due before o n faults d =
+taken_due : (before : List ℕ) (o : Output) (n : ℕ) → IsDue before o → IsDue before (record o { pending = drop n o.pending; content = append_known o.content (take n o.pending) })
+taken_due before o n d =
     let gone = take n o.pending in
     let rest = waiting_text o.names o.closed (o.handed == 0) (drop o.handed o.rows) in
     record {
@@ -61,7 +61,7 @@ taken_due before o n faults d =
 
 -- the sink took some text
 pub wrote_due : (before : List ℕ) (o p : Output) → IsDue before o → WritesSome o p → IsDue before p
-wrote_due before o p d w = subst (IsDue before) (sym w.is) (taken_due before (with_text o) w.count p.faults (made_due before o d))
+wrote_due before o p d w = subst (IsDue before) (sym w.is) (taken_due before (with_text o) w.count (made_due before o d))
 
 -- the sink took nothing
 pub kept_due : (before : List ℕ) (o p : Output) → IsDue before o → KeepsText o p → IsDue before p
@@ -96,6 +96,15 @@ pub new_due : (before : List ℕ) (names : List (List ℕ)) (content : Option (L
 new_due before names content faults e = record { written = []; held = e ∙ ap (λ (x : List ℕ). Some x) (sym (append-nil before)); whole = refl }
 
 -- ---- what writing leaves as it is
+
+made_faults : (o : Output) (xs : List ℕ) (rows : List Cells) → (text_made o xs rows).faults ≡ o.faults
+made_faults o (x ∷ xs) rows = refl
+made_faults o [] [] = refl
+made_faults o [] (row ∷ rest) = refl
+
+-- the sink's count of faults, where it took some text
+pub wrote_faults : (o p : Output) → WritesSome o p → p.faults ≡ o.faults
+wrote_faults o p w = ap (λ (x : Output). x.faults) w.is ∙ made_faults o o.pending (drop o.handed o.rows)
 
 -- the names, the rows and whether it is closed
 pub record SameRows (o p : Output) : Type 0 where

@@ -42,27 +42,25 @@ pub with_row : (o : Output) (row : Cells) (rest : List Cells) → o.pending ≡ 
 with_row o row rest none e = ap (λ (xs : List ℕ). text_made o xs (drop o.handed o.rows)) none ∙ ap (text_made o []) e
 
 -- the sink took of the pending text
-pub wrote_text : (o : Output) (n : ℕ) (left : List ℕ) (content : Option (List ℕ)) (faults : ℕ) → 0 < length o.pending → 0 < n → n ≤ length o.pending → left ≡ drop n o.pending → content ≡ append_known o.content (take n o.pending) → o.faults ≤ faults → WritesSome o (record o { pending = left; content = content; faults = faults })
+pub wrote_text : (o : Output) (n : ℕ) (left : List ℕ) (content : Option (List ℕ)) (faults : ℕ) → 0 < length o.pending → 0 < n → n ≤ length o.pending → left ≡ drop n o.pending → content ≡ append_known o.content (take n o.pending) → faults ≡ o.faults → WritesSome o (record o { pending = left; content = content; faults = faults })
 wrote_text o n left content faults h s w l c f =
     let same = with_pending o h in
     record {
       count = n;
       some = s;
       within = subst (λ (x : Output). n ≤ length x.pending) (sym same) w;
-      is = rw (l, c) (ap (λ (x : Output). record x { pending = drop n x.pending; content = append_known x.content (take n x.pending); faults = faults }) (sym same));
-      later = f;
+      is = rw (l, c, f) (ap (λ (x : Output). record x { pending = drop n x.pending; content = append_known x.content (take n x.pending) }) (sym same));
     }
 
 -- the sink took of a row
-pub wrote_row : (o : Output) (row : Cells) (rest : List Cells) (n : ℕ) (text left : List ℕ) (content : Option (List ℕ)) (faults : ℕ) → o.pending ≡ [] → drop o.handed o.rows ≡ row ∷ rest → text ≡ piece o.names o.closed (o.handed == 0) row rest → 0 < n → n ≤ length text → left ≡ drop n text → content ≡ append_known o.content (take n text) → o.faults ≤ faults → WritesSome o (record o { handed = o.handed + 1; pending = left; content = content; faults = faults })
+pub wrote_row : (o : Output) (row : Cells) (rest : List Cells) (n : ℕ) (text left : List ℕ) (content : Option (List ℕ)) (faults : ℕ) → o.pending ≡ [] → drop o.handed o.rows ≡ row ∷ rest → text ≡ piece o.names o.closed (o.handed == 0) row rest → 0 < n → n ≤ length text → left ≡ drop n text → content ≡ append_known o.content (take n text) → faults ≡ o.faults → WritesSome o (record o { handed = o.handed + 1; pending = left; content = content; faults = faults })
 wrote_row o row rest n text left content faults none e t s w l c f =
     let made = with_row o row rest none e in
     record {
       count = n;
       some = s;
       within = subst (λ (x : Output). n ≤ length x.pending) (sym made) (subst (λ (x : List ℕ). n ≤ length x) t w);
-      is = rw (l, c, t) (ap (λ (x : Output). record x { pending = drop n x.pending; content = append_known x.content (take n x.pending); faults = faults }) (sym made));
-      later = f;
+      is = rw (l, c, f, t) (ap (λ (x : Output). record x { pending = drop n x.pending; content = append_known x.content (take n x.pending) }) (sym made));
     }
 
 -- a row has some text, whatever stands behind it

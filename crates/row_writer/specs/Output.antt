@@ -68,15 +68,15 @@ text_made o [] (row ∷ rest) = record o { handed = o.handed + 1; pending = piec
 abbrev pub with_text : Output → Output
 with_text o = text_made o o.pending (drop o.handed o.rows)
 
--- the sink took one or more bytes of the pending text
+-- the sink took one or more bytes from the front of the pending text: they leave it, what the sink
+-- tells grows by just them, and the sink's count of faults stays
 pub record WritesSome (o p : Output) : Type 0 where
   pub count : ℕ
   pub some : 0 < count
   pub within : count ≤ length (with_text o).pending
-  pub is : p ≡ record (with_text o) { pending = drop count (with_text o).pending; content = append_known (with_text o).content (take count (with_text o).pending); faults = p.faults }
-  pub later : o.faults ≤ p.faults
+  pub is : p ≡ record (with_text o) { pending = drop count (with_text o).pending; content = append_known (with_text o).content (take count (with_text o).pending) }
 
--- nothing changes but the sink's count of faults
+-- nothing changes but the sink's count of faults, which doesn't fall
 pub record KeepsText (o p : Output) : Type 0 where
   pub is : p ≡ record o { faults = p.faults }
   pub later : o.faults ≤ p.faults

@@ -5,8 +5,7 @@
 //! together one text of results (`specs/Output.antt`); each call is one step on that state.
 //! Not here: which rows are solutions, and when they come (`traverse_core`).
 //!
-//! Want of memory is `Memory` everywhere; after it no text and no row is lost, and only the sink may
-//! count a fault.
+//! Want of memory is `Memory` everywhere; after it all is as it was.
 #![tactic(auto)]
 
 mod pieces;

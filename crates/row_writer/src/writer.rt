@@ -1,7 +1,7 @@
 ghost use Rattle.std.specs.Prelude.{◌≡◌, ◌<◌, ◌≤◌, ◌↔◌, ◌∷◌, [], List, length, drop, IsTrue, OnOk, OnErr, IfOk, Ok, true, false};
 ghost use Rattle.rdf_terms.specs.Lists.{IsIn};
 ghost use Rattle.rows_core.specs.Rows.{Cells};
-ghost use Rattle.row_writer.specs.Output.{IsClear, Writes, KeepsText, closed_by};
+ghost use Rattle.row_writer.specs.Output.{IsClear, Writes, closed_by};
 
 use crate::pieces::{bytes_from, row_at, row_piece, tail_after};
 use crate::written::Written;
@@ -72,7 +72,7 @@ impl<S: Sink> RowWriter<S> {
         requires { 0 < length self.old.pending }
         ensures step { IfOk result (λ written. Writes self.old self.new written) }
         ensures some { result ≡ Ok Written.Clear → ⊥ }
-        ensures err { OnErr result (KeepsText self.old self.new) }
+        ensures err { OnErr result (self.new ≡ self.old) }
     {
         match self.sink.write(bytes_from(self.text.as_slice(), self.at)) {
             Wrote::Took(count) => {
@@ -90,7 +90,7 @@ impl<S: Sink> RowWriter<S> {
         requires waits { self.old.handed < length self.old.rows }
         ensures step { IfOk result (λ written. Writes self.old self.new written) }
         ensures some { result ≡ Ok Written.Clear → ⊥ }
-        ensures err { OnErr result (KeepsText self.old self.new) }
+        ensures err { OnErr result (self.new ≡ self.old) }
     {
         let handed = self.handed;
         let behind = tail_after(self.closed, self.rows.len() - handed - 1);
@@ -113,11 +113,12 @@ impl<S: Sink> RowWriter<S> {
         }
     }
 
-    /// Writes one piece: of the text that is pending, or else of the first row that waits.
+    /// Writes one piece: of the text that is pending, or else of the first row that waits. The
+    /// sink's count of faults rises only with `Failed`; after `Memory` all is as it was.
     pub fn write(&mut self, alloc: Global) -> Result<Written, Memory>
         ensures step { IfOk result (λ written. Writes self.old self.new written) }
         ensures clear { (result ≡ Ok Written.Clear) ↔ IsClear self.old }
-        ensures err { OnErr result (KeepsText self.old self.new) }
+        ensures err { OnErr result (self.new ≡ self.old) }
     {
         if self.at < self.text.len() {
             return self.write_text();
