@@ -1,4 +1,4 @@
--- What makes fetchers over a web in memory is seen as.
+-- The contents of what makes fetchers over a web in memory.
 use Rattle.std.specs.Prelude.{ℕ}
 use Rattle.reach_terms.specs.declared.web.Web.{Web}
 use Rattle.web_port.specs.declared.losses.Losses.{Losses}

@@ -1,4 +1,4 @@
-ghost use Rattle.std.specs.Prelude.{◌≡◌, ◌<◌, ◌↔◌, ℕ, length, IsTrue, OnOk, OnErr, IfOk};
+ghost use Rattle.std.specs.Prelude.{◌≡◌, ◌<◌, ◌↔◌, ℕ, length, true, IsTrue, IsSome, OnOk, OnErr, IfOk};
 ghost use Rattle.rdf_terms.specs.Lists.{IsIn};
 ghost use Rattle.link_uri.specs.Links.{IsLink};
 ghost use Rattle.reach_terms.specs.Web.{Fetch};
@@ -36,7 +36,7 @@ pub enum Polled {
 /// have failed.
 pub trait Fetcher {
     /// The web, where it is told, the number of tries, and whether only links that the web never
-    /// answers fail. No call changes it.
+    /// answers fail: what is sure tells its web. No call changes it.
     ghost fetch: { Self → Fetch };
 
     /// How many links may be open at a time. No call changes it.
@@ -48,7 +48,9 @@ pub trait Fetcher {
     /// Whether one more link may be started. No memory is taken.
     fn room(&self) -> bool
         ensures room { IsTrue result ↔ (length (port self.now).flights < lanes self.now) }
-        ensures some { (0 < lanes self.now) × (0 < (fetch self.now).tries) };
+        ensures some { (0 < lanes self.now) × (0 < (fetch self.now).tries) }
+        // what is sure tells its web
+        ensures told { (fetch self.now).sure ≡ true → IsSome (fetch self.now).web };
 
     /// Starts the look-up of a link.
     fn start(&mut self, number: u64, link: &Link) -> Result<(), Memory>

@@ -1,4 +1,4 @@
-ghost use Rattle.std.specs.Prelude.{◌≡◌, ◌≤◌, ℕ, Bool, IfOk};
+ghost use Rattle.std.specs.Prelude.{◌≡◌, ◌≤◌, ℕ, Bool, true, IsSome, IfOk};
 ghost use Rattle.std.specs.declared.option.Option.{Option};
 ghost use Rattle.outer_ports.specs.Causes.{Rose};
 ghost use Rattle.reach_terms.specs.declared.record.Cause.{Cause};
@@ -27,7 +27,8 @@ pub trait Links {
     /// The web, where it is told. No call changes it.
     ghost web: { Self → Option Web };
 
-    /// Whether only links that the web never answers fail. No call changes it.
+    /// Whether only links that the web never answers fail: what is sure tells its web. No call
+    /// changes it.
     ghost sure: { Self → Bool };
 
     /// How often making a fetcher has failed.
@@ -50,6 +51,10 @@ pub trait Links {
         // A failure has its cause.
         ensures cause { result ≡ Err MakeFault.Failed → Rose (faults self.old) (faults self.new) }
         ensures later { faults self.old ≤ faults self.new }
+        ensures memory { result ≡ Err MakeFault.Memory → faults self.new ≡ faults self.old }
+
+        // what is sure tells its web
+        ensures told { sure self.old ≡ true → IsSome (web self.old) }
 
         ensures same { (web self.new ≡ web self.old) × (sure self.new ≡ sure self.old) }
         ensures kept { (spent self.new ≡ spent self.old) × (lost self.new ≡ lost self.old) };

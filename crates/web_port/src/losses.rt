@@ -40,7 +40,7 @@ impl Losses {
     }
 
     /// One more link was given up. The count of its cause has room.
-    pub fn add(&mut self, cause: Cause)
+    pub(crate) fn add(&mut self, cause: Cause)
         requires { lost_in self.old cause + 1 < 2 ^ 64 }
         ensures { self.new ≡ one_more self.old cause }
     {

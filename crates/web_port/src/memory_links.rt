@@ -1,4 +1,4 @@
-ghost use Rattle.std.specs.Prelude.{◌≡◌, ◌≤◌, ◌<◌, ◌+◌, ◌-◌, ◌^◌, ◌↔◌, min, IfOk, Some, []};
+ghost use Rattle.std.specs.Prelude.{◌≡◌, ◌≤◌, ◌<◌, ◌+◌, ◌-◌, ◌^◌, ◌↔◌, min, true, IsSome, IfOk, Some, []};
 ghost use Rattle.outer_ports.specs.Causes.{Rose};
 ghost use Rattle.reach_terms.specs.declared.record.Cause.{Cause};
 ghost use Rattle.web_port.specs.Counts.{no_losses, RoseBy, lost_in};
@@ -126,16 +126,20 @@ impl Links for MemoryLinks {
         ensures new { IfOk result (λ f. IsNew (fetching_port f)) }
         ensures cause { result ≡ Err MakeFault.Failed → Rose self.old.faults self.new.faults }
         ensures later { self.old.faults ≤ self.new.faults }
+        ensures memory { result ≡ Err MakeFault.Memory → self.new.faults ≡ self.old.faults }
+        ensures told { is_empty_list self.old.fails ≡ true → IsSome (Some self.old.web) }
         ensures same { (Some self.new.web ≡ Some self.old.web)
             × (is_empty_list self.new.fails ≡ is_empty_list self.old.fails) }
         ensures kept { (self.new.spent ≡ self.old.spent) × (self.new.lost ≡ self.old.lost) }
 
-        // It fails exactly at the call that it was told, and then counts the call.
+        // It fails exactly at the call that it was told, and then counts the call and the fault.
         ensures exactly { (result ≡ Err MakeFault.Failed)
             ↔ ((self.old.calls ≡ self.old.refuse) × (self.old.refuse < 2 ^ 64 - 1)) }
         ensures calls { (result ≡ Err MakeFault.Memory → self.new ≡ self.old)
             × ((result ≡ Err MakeFault.Memory → ⊥)
             → self.new.calls ≡ min (self.old.calls + 1) (2 ^ 64 - 1)) }
+        ensures counted { (result ≡ Err MakeFault.Failed → self.new.faults ≡ min (self.old.faults + 1) (2 ^ 64 - 1))
+            × ((result ≡ Err MakeFault.Failed → ⊥) → self.new.faults ≡ self.old.faults) }
         ensures made { IfOk result (λ f. (f.turns ≡ []) × (f.fails ≡ self.old.fails)) }
         ensures rest { (self.new.refuse ≡ self.old.refuse) × (self.new.fails ≡ self.old.fails) }
     {

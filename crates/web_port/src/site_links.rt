@@ -151,9 +151,12 @@ impl Fetcher for SiteFetcher {
         ensures err { OnErr result (Waits (spec.site_fetch self.old.site self.old.tries)
             (port_of 0 self.old.flying) (port_of 0 self.new.flying)) }
 
-        // The link that was started first is answered.
+        // The link that was started first is answered, and nothing is counted.
         ensures polled { IfOk result (λ polled.
             polled ≡ spec.site_polled (spec.web_of_site self.old.site) self.old.flying.flights) }
+        ensures state { OnOk result (self.new ≡ record self.old {
+          flying = spec.after_site_poll self.old.flying self.old.flying.flights;
+        }) }
         ensures unchanged { OnErr result (self.new ≡ self.old) }
     {
         self.answer()
