@@ -1,0 +1,18 @@
+//! The report of a run: which links failed and why, and how many were looked up.
+//!
+//! Promise: a report is exactly the text that `specs/Report.antt` defines: a line for each failed
+//! link by ascending link text, then the totals.
+//! Not here: the reports of runs without a record, and where a report is written (the top call).
+//!
+//! Want of memory is `Memory` everywhere; after it every argument that was lent is as before.
+#![tactic(auto)]
+
+mod causes;
+mod failures;
+mod report;
+#[cfg(test)]
+mod tests;
+mod totals;
+
+pub use crate::failures::has_failed;
+pub use crate::report::record_report;
