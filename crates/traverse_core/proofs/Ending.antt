@@ -2,7 +2,6 @@
 use Rattle.std.proofs.Common.{ℕ, suc, ◌≡◌, ◌⊎◌, List, [], ◌∷◌, ◌++◌, Option, Some, None, true, refl, sym, ◌∙◌, ap, subst, inl, inr, arith}
 use Rattle.std.specs.Prelude.{IfSome, if◌then◌else◌, map, length}
 use Rattle.std.specs.Option.{option_map}
-use Rattle.std.specs.List.Sorted.{IsPermutation}
 use Rattle.rdf_terms.specs.declared.triple.Triple.{Triple}
 use Rattle.rdf_terms.specs.Lists.{IsIn, Apart}
 use Rattle.rdf_terms.proofs.Members.{in_left, in_right, in_either, in_map}
@@ -21,14 +20,15 @@ use Rattle.reach_terms.specs.declared.record.Found.TheVariants.{Outcome as Told,
 use Rattle.reach_terms.specs.declared.record.Entry.{Entry}
 use Rattle.reach_terms.specs.declared.record.Record.{Record}
 use Rattle.reach_terms.specs.declared.web.Web.{Web}
-use Rattle.reach_terms.specs.Reach.{Text}
-use Rattle.reach_terms.specs.Record.{entry_links, AgreesWith, IsFaithful, IsTraversed, HasEnded, merged_graph}
+use Rattle.reach_terms.specs.Reach.{Text, Rule}
+use Rattle.reach_terms.specs.Record.{entry_links, AgreesWith, IsFaithful, IsTraversed, HasEnded, LooksUpReachable, merged_graph}
+use Rattle.reach_terms.proofs.Reachable.{looks_up_reachable}
 use Rattle.plain_documents.specs.Outcome.{outcome_of}
 use Rattle.algebra_core.specs.declared.query.Query.{Query}
 use Rattle.algebra_core.specs.Meaning.{eval}
 use Rattle.algebra_core.specs.Order.{row_cmp}
 use Rattle.algebra_core.specs.Query.{Answers, answers_by, distinct_if, ordered_if}
-use Rattle.traverse_core.specs.Query.{patterns_of, selected_names}
+use Rattle.traverse_core.specs.Query.{selected_names}
 use Rattle.row_writer.specs.Output.{IsClear, closed_by}
 use Rattle.row_writer.proofs.Due.{whole_due}
 use Rattle.traverse_core.specs.Run.{Run, rule_of, seeds_of, AgreesAt}
@@ -134,6 +134,14 @@ pub faithful : (run : Run) (s : State) → IsKept run s → IfSome run.fetch.web
 faithful run s k =
     told_web run.fetch.web run.body (trace_of s)
     (λ w e x h. let a = k.entries x h in at_text w run.body a.link x.link x.found a.own a.text (agrees_told run.fetch.web run.body w a.link x.found e a.may.agrees))
+
+reach_told : (web : Option Web) (body : ℕ) (r : Record) (seeds : List Text) (rule : Rule) (limit : ℕ) → IsTraversed r seeds rule limit → r.queued ≡ [] → IfSome web (λ w. IsFaithful (outcome_of w body) r) → IfSome web (λ w. LooksUpReachable (outcome_of w body) r seeds rule)
+reach_told None body r seeds rule limit t none f = tt
+reach_told (Some w) body r seeds rule limit t none f = looks_up_reachable (outcome_of w body) r seeds rule limit t none f
+
+-- with nothing queued, what was looked up is just what is reachable in the web
+pub reachable : (run : Run) (s : State) → flying s.table ≡ 0 → queued_links (marks s.table) ≡ [] → IsKept run s → IfSome run.fetch.web (λ w. LooksUpReachable (outcome_of w run.body) (trace_of s) (seeds_of run) (rule_of run))
+reachable run s f none k = reach_told run.fetch.web run.body (trace_of s) (seeds_of run) (rule_of run) run.limit (traversed run s f k) none (faithful run s k)
 
 none_later : (o : Option ℕ) → option_map suc o ≡ None → o ≡ None
 none_later None h = refl

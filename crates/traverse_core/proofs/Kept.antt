@@ -25,13 +25,13 @@ use Rattle.row_writer.specs.declared.written.Written.{Written}
 use Rattle.row_writer.specs.declared.written.Written.TheVariants.{Wrote, Clear, Failed}
 use Rattle.rows_core.specs.Rows.{Cells}
 use Rattle.row_writer.specs.Output.{Output, IsDue, Writes, closed_by}
-use Rattle.row_writer.proofs.Due.{SameRows, wrote_due, wrote_same, kept_due, kept_same, closed_due, new_due}
+use Rattle.row_writer.proofs.Due.{SameRows, wrote_due, wrote_same, wrote_faults, kept_due, kept_same, closed_due, new_due}
 use Rattle.traverse_core.specs.declared.steps.Halt.{Halt}
 use Rattle.traverse_core.specs.declared.steps.Halt.TheVariants as halt
 use Rattle.traverse_core.specs.Run.{Run}
 use Rattle.traverse_core.specs.State.{State, is_running, next_of, MayClose}
 use Rattle.traverse_core.specs.Kept.{LinksKept, OutputKept, StopKept, IsKept, IsTied}
-use Rattle.traverse_core.specs.Steps.{opened, restated, WritesOut, Closes, Stays, halted_by_memory}
+use Rattle.traverse_core.specs.Steps.{opened, restated, WritesOut, Closes, halted_by_memory}
 
 -- a count that has risen
 rose_more : (a b c m : ℕ) → min (a + 1) m ≤ b → b ≤ c → min (a + 1) m ≤ c
@@ -230,16 +230,12 @@ out_kept run s p h same due later failed k = record {
   stop = stop_same run s p h same later failed k.stop;
 }
 
-pub stays_kept : (run : Run) (s t : State) → Stays s t → IsKept run s → IsKept run t
-stays_kept run s t w k =
-    subst (IsKept run) (sym w.is)
-    (out_kept run s t.out s.halted (kept_same s.out t.out w.out) (λ before e. kept_due before s.out t.out (k.output.due before e) w.out) w.out.later (λ e. rose_on run.faults s.out.faults t.out.faults (k.stop.failed e) w.out.later) k)
-
 pub wrote_kept : (run : Run) (s t : State) (w : Written) → WritesOut s t w → IsKept run s → IsKept run t
 wrote_kept run s t Wrote w k =
     let some = w.0 in
+    let later : s.out.faults ≤ t.out.faults = let e = wrote_faults s.out t.out some in omega arith in
     subst (IsKept run) (sym w.1)
-    (out_kept run s t.out s.halted (wrote_same s.out t.out some) (λ before e. wrote_due before s.out t.out (k.output.due before e) some) some.later (λ e. rose_on run.faults s.out.faults t.out.faults (k.stop.failed e) some.later) k)
+    (out_kept run s t.out s.halted (wrote_same s.out t.out some) (λ before e. wrote_due before s.out t.out (k.output.due before e) some) later (λ e. rose_on run.faults s.out.faults t.out.faults (k.stop.failed e) later) k)
 wrote_kept run s t Clear w k = subst (IsKept run) (sym w.1) k
 wrote_kept run s t Failed w k =
     let same = w.0 in
@@ -254,9 +250,6 @@ wrote_table s t Failed w = ap (λ x. x.table) w.2
 
 pub wrote_tied : (run : Run) (q : Query) (c : Criterion) (ps : List TriplePattern) (limit f : ℕ) (s t : State) (w : Written) → IsTied run q c ps limit f s → WritesOut s t w → IsTied run q c ps limit f t
 wrote_tied run q c ps limit f s t w k h = tied_to run q c ps limit f f s t k (k.counted ∙ ap flying (sym (wrote_table s t w h))) (wrote_kept run s t w h k.kept)
-
-pub stays_tied : (run : Run) (q : Query) (c : Criterion) (ps : List TriplePattern) (limit f : ℕ) (s t : State) → IsTied run q c ps limit f s → Stays s t → IsTied run q c ps limit f t
-stays_tied run q c ps limit f s t k h = tied_to run q c ps limit f f s t k (k.counted ∙ ap (λ x. flying x.table) (sym h.is)) (stays_kept run s t h k.kept)
 
 -- ---- halting
 

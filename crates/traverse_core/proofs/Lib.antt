@@ -5,3 +5,6 @@ pub mod Kept
 pub mod Settling
 pub mod Ending
 pub mod Machine
+pub mod Balance
+pub mod RunningOn
+pub mod Sharing

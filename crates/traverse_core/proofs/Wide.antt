@@ -1,5 +1,5 @@
 -- Each solution has a cell for each selected variable.
-use Rattle.std.proofs.Common.{ℕ, ◌≡◌, List, [], ◌∷◌, ◌++◌, Bool, true, false, sym, ◌∙◌, ap, subst, length, map}
+use Rattle.std.proofs.Common.{List, [], Bool, true, false, sym, ◌∙◌, ap, subst, length, map}
 use Rattle.std.specs.Prelude.{slice_get, unwrap_or}
 use Rattle.std.proofs.lemmas.List.{length-map}
 use Rattle.rdf_terms.specs.declared.triple.Triple.{Triple}
@@ -10,7 +10,7 @@ use Rattle.rows_core.specs.Rows.{Cells, projected, cell_or_free}
 use Rattle.algebra_core.specs.declared.query.Query.{Query}
 use Rattle.algebra_core.specs.Order.{row_cmp}
 use Rattle.algebra_core.specs.Query.{same_row, distinct_if, body_rows, ordered_if, solutions}
-use Rattle.traverse_core.specs.Query.{selected_names, AreWide}
+use Rattle.traverse_core.specs.Query.{AreWide}
 
 projected_wide : (q : Query) (rows : List Cells) → AreWide q (map (projected q.select) rows)
 projected_wide q rows row h =

@@ -3,3 +3,5 @@ pub mod Run
 pub mod State
 pub mod Kept
 pub mod Steps
+pub mod Totals
+pub mod Alone

@@ -75,46 +75,68 @@ pub record Closes (run : Run) (s t : State) : Type 0 where
 abbrev pub halted_by_memory : State → State
 halted_by_memory s = record s { halted = if is_none s.halted then Some halt.Memory else s.halted }
 
--- nothing changes but the sink's count of faults: memory was wanting
-pub record Stays (s t : State) : Type 0 where
-  pub is : t ≡ record s { out = t.out }
-  pub out : KeepsText s.out t.out
-
 -- ---- the machine
 
--- settling the link of a number, where it may be
-pub record Settles (run : Run) (number : ℕ) (link : Link) (found : Found) (s t : State) : Type 0 where
+-- when the link of a number may be settled with what was found
+pub record MaySettle (run : Run) (number : ℕ) (link : Link) (found : Found) (s : State) : Type 0 where
   pub runs : IsTrue (is_running s)
   pub out : slice_get s.table number ≡ Some (link, InFlight)
   pub dry : IsDry s
   pub clear : IsClear s.out
   pub links : HasLinks found
   pub may : MayFind run link found
-  pub is : t ≡ settled (rule_of run) s number link.text found
 
--- a step by its command, under its conditions
+-- the conditions of a command's step
+abbrev pub MayStep : Run → Command → State → Type 0
+MayStep run step.Take s = Unit {0}
+MayStep run (step.Settle number link found) s = MaySettle run number link found s
+MayStep run (step.GiveBack number) s = state_at s.table number ≡ Some InFlight
+MayStep run step.Draw s = IsTrue (is_running s)
+MayStep run step.Write s = s.halted ≡ None
+MayStep run step.Close s = IsTrue (is_running s) × MayClose run s
+MayStep run step.Halt s = Unit {0}
+
+-- the step of a command
 abbrev pub Steps : Run → Command → State → State → Type 0
 Steps run step.Take s t = t ≡ taken run s
-Steps run (step.Settle number link found) s t = Settles run number link found s t
-Steps run (step.GiveBack number) s t = (state_at s.table number ≡ Some InFlight) × (t ≡ restated s number Queued)
-Steps run step.Draw s t = IsTrue (is_running s) × Draws s t
-Steps run step.Write s t = (s.halted ≡ None) × ((written : Written) × WritesOut s t written)
-Steps run step.Close s t = IsTrue (is_running s) × MayClose run s × Closes run s t
+Steps run (step.Settle number link found) s t = t ≡ settled (rule_of run) s number link.text found
+Steps run (step.GiveBack number) s t = t ≡ restated s number Queued
+Steps run step.Draw s t = Draws s t
+Steps run step.Write s t = (written : Written) × WritesOut s t written
+Steps run step.Close s t = Closes run s t
 Steps run step.Halt s t = t ≡ halted_by_memory s
 
--- what a command does: its step, or nothing where its conditions don't hold or memory is wanting
+-- the step of the command takes memory, which may be wanting
+abbrev pub TakesMemory : Command → Type 0
+TakesMemory step.Take = ⊥
+TakesMemory (step.Settle number link found) = Unit {0}
+TakesMemory (step.GiveBack number) = ⊥
+TakesMemory step.Draw = Unit {0}
+TakesMemory step.Write = Unit {0}
+TakesMemory step.Close = Unit {0}
+TakesMemory step.Halt = ⊥
+
+-- what a command does: where its conditions hold it makes its step, and else it changes nothing
 abbrev pub Does : Run → Command → State → State → Type 0
-Does run command s t = Steps run command s t ⊎ Stays s t
+Does run command s t = (MayStep run command s × Steps run command s t) ⊎ ((MayStep run command s → ⊥) × (t ≡ s))
 
--- the states, newest first, lead from s to t, each by a command
-abbrev pub LeadTo : Run → State → List State → State → Type 0
-LeadTo run s [] t = t ≡ s
-LeadTo run s (m ∷ before) t = LeadTo run s before m × ((command : Command) × Does run command m t)
+-- the conditions of the command's step hold, and the step takes memory
+abbrev pub Wants : Run → Command → State → Type 0
+Wants run command s = MayStep run command s × TakesMemory command
 
--- a list of steps leads from s to t
-pub record IsRun (run : Run) (s t : State) : Type 0 where
-  pub over : List State
-  pub steps : LeadTo run s over t
+-- the commands, one after the other in their order, lead from s to t
+abbrev pub Follows : Run → List Command → State → State → Type 0
+Follows run [] s t = t ≡ s
+Follows run (command ∷ commands) s t = (between : State) × Does run command s between × Follows run commands between t
+
+-- the first of the commands lead from s to t, where the next one's step wants memory
+pub record FollowsInPart (run : Run) (commands : List Command) (s t : State) : Type 0 where
+  pub made : List Command
+  pub next : Command
+  pub left : List Command
+  pub all : commands ≡ made ++ next ∷ left
+  pub follows : Follows run made s t
+  pub wants : Wants run next t
 
 -- a found that is settled by a command may be found at its link
 abbrev pub MayBe : Run → Command → Type 0

@@ -3,7 +3,8 @@ ghost use Rattle.rdf_terms.specs.Lists.{IsIn};
 ghost use Rattle.traverse_core.specs.declared.steps.Command.{Command as command};
 ghost use Rattle.traverse_core.specs.Run.{HasLinks, MayFind};
 ghost use Rattle.traverse_core.specs.Kept.{IsKept};
-ghost use Rattle.traverse_core.specs.Steps.{Does, IsRun, MayBe};
+ghost use Rattle.traverse_core.specs.Steps.{Does, Follows, FollowsInPart, MayBe, Wants};
+ghost use Rattle.std.specs.Prelude.{◌≡◌, OnOk, OnErr};
 
 use crate::job::Job;
 use crate::steps::Command;
@@ -11,6 +12,7 @@ use crate::traversal::Traversal;
 use link_queue::LinkState;
 use link_uri::Link;
 use outer_ports::Sink;
+use rdf_terms::Memory;
 use reach_terms::Found;
 use std::collections::VecDeque;
 
@@ -25,24 +27,25 @@ pub(crate) fn settle<J: Job, S: Sink>(
     number: u64,
     link: &Link,
     found: Found,
-)
+) -> Result<(), Memory>
     requires links { HasLinks found }
     requires may { MayFind J.run link.now found }
-    ensures { Does J.run (Command.Settle number link.now found) run.old run.new }
+    ensures ok { OnOk result (Does J.run (Command.Settle number link.now found) run.old run.new) }
+    ensures err { OnErr result (Wants J.run (Command.Settle number link.now found) run.old × (run.new ≡ run.old)) }
 {
     if !run.is_running() {
-        return;
+        return Ok(());
     }
     if !run.is_out(number, link) {
-        return;
+        return Ok(());
     }
     if !run.is_dry() {
-        return;
+        return Ok(());
     }
     if !run.is_clear() {
-        return;
+        return Ok(());
     }
-    let _settled = run.settle(number, found);
+    run.settle(number, found)
 }
 
 pub(crate) fn give_back<J: Job, S: Sink>(run: &mut Traversal<J, S>, number: u64)
@@ -53,43 +56,48 @@ pub(crate) fn give_back<J: Job, S: Sink>(run: &mut Traversal<J, S>, number: u64)
     }
 }
 
-pub(crate) fn draw<J: Job, S: Sink>(run: &mut Traversal<J, S>)
-    ensures { Does J.run Command.Draw run.old run.new }
+pub(crate) fn draw<J: Job, S: Sink>(run: &mut Traversal<J, S>) -> Result<(), Memory>
+    ensures ok { OnOk result (Does J.run Command.Draw run.old run.new) }
+    ensures err { OnErr result (Wants J.run Command.Draw run.old × (run.new ≡ run.old)) }
 {
     if !run.is_running() {
-        return;
+        return Ok(());
     }
-    let _drawn = run.draw();
+    let _drawn = run.draw()?;
+    Ok(())
 }
 
-pub(crate) fn write<J: Job, S: Sink>(run: &mut Traversal<J, S>)
-    ensures { Does J.run Command.Write run.old run.new }
+pub(crate) fn write<J: Job, S: Sink>(run: &mut Traversal<J, S>) -> Result<(), Memory>
+    ensures ok { OnOk result (Does J.run Command.Write run.old run.new) }
+    ensures err { OnErr result (Wants J.run Command.Write run.old × (run.new ≡ run.old)) }
 {
     if run.halted().is_some() {
-        return;
+        return Ok(());
     }
-    let _written = run.write();
+    let _written = run.write()?;
+    Ok(())
 }
 
-pub(crate) fn close<J: Job, S: Sink>(run: &mut Traversal<J, S>)
-    ensures { Does J.run Command.Close run.old run.new }
+pub(crate) fn close<J: Job, S: Sink>(run: &mut Traversal<J, S>) -> Result<(), Memory>
+    ensures ok { OnOk result (Does J.run Command.Close run.old run.new) }
+    ensures err { OnErr result (Wants J.run Command.Close run.old × (run.new ≡ run.old)) }
 {
     if !run.is_running() {
-        return;
+        return Ok(());
     }
     if run.in_flight() != 0 {
-        return;
+        return Ok(());
     }
     if !run.is_dry() {
-        return;
+        return Ok(());
     }
     if !run.is_clear() {
-        return;
+        return Ok(());
     }
     if run.can_take() {
-        return;
+        return Ok(());
     }
-    let _closed = run.close();
+    run.close()
 }
 
 pub(crate) fn halt<J: Job, S: Sink>(run: &mut Traversal<J, S>)
@@ -99,9 +107,10 @@ pub(crate) fn halt<J: Job, S: Sink>(run: &mut Traversal<J, S>)
 }
 
 // Makes one step, where its conditions hold.
-fn follow<J: Job, S: Sink>(run: &mut Traversal<J, S>, command: Command)
+fn follow<J: Job, S: Sink>(run: &mut Traversal<J, S>, command: Command) -> Result<(), Memory>
     requires { MayBe J.run command }
-    ensures { Does J.run command run.old run.new }
+    ensures ok { OnOk result (Does J.run command run.old run.new) }
+    ensures err { OnErr result (Wants J.run command run.old × (run.new ≡ run.old)) }
 {
     match command {
         Command::Take => take(run),
@@ -109,25 +118,44 @@ fn follow<J: Job, S: Sink>(run: &mut Traversal<J, S>, command: Command)
             number,
             link,
             found,
-        } => settle(run, number, &link, found),
+        } => return settle(run, number, &link, found),
         Command::GiveBack { number } => give_back(run, number),
-        Command::Draw => draw(run),
-        Command::Write => write(run),
-        Command::Close => close(run),
+        Command::Draw => return draw(run),
+        Command::Write => return write(run),
+        Command::Close => return close(run),
         Command::Halt => halt(run),
     }
+    Ok(())
 }
 
-/// Makes the steps of a list, in its order, and skips those whose conditions don't hold. Whatever
-/// the list, the traversal then keeps what every state keeps, and each state came by a step.
-pub fn follow_all<J: Job, S: Sink>(run: &mut Traversal<J, S>, commands: VecDeque<Command>)
+/// Makes the steps of a list, in its order, and skips just those whose conditions don't hold; it
+/// ends before the first step for which memory is wanting. Whatever the list, the traversal then
+/// keeps what every state keeps.
+pub fn follow_all<J: Job, S: Sink>(
+    run: &mut Traversal<J, S>,
+    commands: VecDeque<Command>,
+) -> Result<(), Memory>
     requires { (c : command) → IsIn commands.items c → MayBe J.run c }
-    ensures ran { IsRun J.run run.old run.new }
+    ensures follows { OnOk result (Follows J.run commands.items run.old run.new) }
+    ensures err { OnErr result (FollowsInPart J.run commands.items run.old run.new) }
     ensures kept { IsKept J.run run.new }
+{
+    let followed = follow_each(run, commands);
+    let _in_flight = run.in_flight();
+    followed
+}
+
+fn follow_each<J: Job, S: Sink>(
+    run: &mut Traversal<J, S>,
+    commands: VecDeque<Command>,
+) -> Result<(), Memory>
+    requires { (c : command) → IsIn commands.items c → MayBe J.run c }
+    ensures follows { OnOk result (Follows J.run commands.items run.old run.new) }
+    ensures err { OnErr result (FollowsInPart J.run commands.items run.old run.new) }
 {
     let mut commands = commands;
     while let Some(command) = commands.pop_front() {
-        follow(run, command);
+        follow(run, command)?;
     }
-    let _in_flight = run.in_flight();
+    Ok(())
 }

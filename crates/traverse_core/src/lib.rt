@@ -2,14 +2,17 @@
 //!
 //! Promise: each call is one step of `specs/Steps.antt`, and each state keeps what
 //! `specs/Kept.antt` lists, whatever the order of the steps; so at the end the record is traversed
-//! and faithful, and the links looked up are exactly the reachable ones (`reach_terms`).
-//! Not here: who takes steps, and how a link is looked up (`web_port`).
+//! and faithful, and where the web is told and nothing is queued the links looked up are exactly the
+//! reachable ones (`reach_terms`). `run_alone` takes the steps for one caller, and returns.
+//! Not here: how a link is looked up (`web_port`), and runs by several callers.
 //!
 //! A run is named by a type parameter that stands for its meanings (`Job`). Want of memory is
-//! `Memory` everywhere, and the traversal is then as it was.
+//! `Memory` everywhere, and the traversal is then as it was; a run halts and gives back.
 #![tactic(auto)]
 
+mod alone;
 mod answering;
+mod catching_up;
 mod commands;
 mod finished;
 mod growing;
@@ -17,7 +20,9 @@ mod job;
 mod opening;
 mod steps;
 mod traversal;
+mod turns;
 
+pub use crate::alone::Ran;
 pub use crate::commands::follow_all;
 pub use crate::finished::Finished;
 pub use crate::job::Job;

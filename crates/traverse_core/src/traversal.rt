@@ -1,4 +1,4 @@
-ghost use Rattle.std.specs.Prelude.{◌≡◌, ◌↔◌, ◌<◌, ℕ, List, length, Ok, Some, None, IsTrue, IsSome, IsNone, IfOk, IfSome, IfNone, OnOk, OnErr, IfErr, slice_get};
+ghost use Rattle.std.specs.Prelude.{◌≡◌, ◌↔◌, ◌<◌, ℕ, List, [], length, Ok, Some, None, IsTrue, IsSome, IsNone, IfOk, IfSome, IfNone, OnOk, OnErr, IfErr, slice_get};
 ghost use Rattle.rdf_terms.specs.Lists.{IsIn};
 ghost use Rattle.link_uri.specs.declared.link.Link.{Link as link};
 ghost use Rattle.link_uri.specs.Links.{IsLink, AreLinks};
@@ -10,11 +10,13 @@ ghost use Rattle.algebra_core.specs.Query.{Answers};
 ghost use Rattle.traverse_core.specs.Query.{selected_names};
 ghost use Rattle.rows_core.specs.Rows.{Cells};
 ghost use Rattle.row_writer.specs.Output.{IsClear};
-ghost use Rattle.reach_terms.specs.Record.{IsTraversed, IsFaithful, HasEnded, merged_graph};
+ghost use Rattle.reach_terms.specs.Record.{IsTraversed, IsFaithful, HasEnded, LooksUpReachable, merged_graph};
 ghost use Rattle.traverse_core.specs.Run.{HasLinks, MayFind, rule_of, seeds_of};
 ghost use Rattle.traverse_core.specs.State.{is_running, next_of, IsDry, MayClose};
 ghost use Rattle.traverse_core.specs.Kept.{IsKept};
-ghost use Rattle.traverse_core.specs.Steps.{opened, restated, taken, settled, WritesOut, Closes, Stays, halted_by_memory};
+ghost use Rattle.traverse_core.specs.Steps.{opened, restated, taken, settled, WritesOut, Closes, halted_by_memory};
+
+mod judging;
 
 use crate::answering::answer_rows;
 use crate::finished::Finished;
@@ -257,13 +259,14 @@ impl<J: Job, S: Sink> Traversal<J, S> {
         Ok(Drawn::One)
     }
 
-    /// Writes one piece of the text that is pending, or else of the first row that waits. Where the
-    /// sink fails the traversal is halted.
+    /// Writes one piece of the text that is pending, or else of the first row that waits: what the
+    /// sink tells grows by just the bytes that leave the text. Where the sink fails the traversal is
+    /// halted; only then the sink's count of faults rises. After `Memory` all is as it was.
     pub fn write(&mut self) -> Result<Written, Memory>
         requires { self.old.halted ≡ None }
         ensures step { IfOk result (λ written. WritesOut self.old self.new written) }
         ensures clear { (result ≡ Ok Written.Clear) ↔ IsClear self.old.out }
-        ensures err { OnErr result (Stays self.old self.new) }
+        ensures err { OnErr result (self.new ≡ self.old) }
     {
         let written = self.output.write(self.alloc)?;
         if let Written::Failed = written {
@@ -323,6 +326,9 @@ impl<J: Job, S: Sink> Traversal<J, S> {
         ensures traversed { IsTraversed result.trace (seeds_of J.run) (rule_of J.run) J.run.limit }
         ensures faithful { IfSome J.run.fetch.web (λ web. IsFaithful (outcome_of web J.run.body) result.trace) }
         ensures ended { IsTrue self.out.closed → HasEnded result.trace J.run.limit }
+        // with nothing queued, as once closed below the limit
+        ensures reachable { result.trace.queued ≡ [] → IfSome J.run.fetch.web (λ web.
+            LooksUpReachable (outcome_of web J.run.body) result.trace (seeds_of J.run) (rule_of J.run)) }
         ensures out { (S.content result.out ≡ self.out.content) × (S.faults result.out ≡ self.out.faults) }
         ensures halted { result.halted ≡ self.halted }
         // once all is written

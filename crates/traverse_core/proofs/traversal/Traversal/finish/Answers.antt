@@ -1,10 +1,10 @@
-use Rattle.std.proofs.Common.{◌≡◌, ◌∙◌, ap, sym, subst, true, List}
-use Rattle.link_queue.specs.Table.{flying}
+use Rattle.std.proofs.Common.{◌≡◌, ◌∙◌, ap, sym, subst, true, List, []}
+use Rattle.link_queue.specs.Table.{flying, marks, queued_links}
 use Rattle.reach_terms.specs.declared.record.Entry.{Entry}
 use Rattle.reach_terms.specs.Record.{merged_graph}
 use Rattle.algebra_core.specs.Query.{Answers}
 use Rattle.row_writer.specs.Output.{IsClear}
-use Rattle.traverse_core.proofs.Ending.{traversed, ended, written}
+use Rattle.traverse_core.proofs.Ending.{traversed, ended, reachable, written}
 use Rattle.traverse_core.proofs.traversal.Traversal.finish.Goals as goal
 
 pub returns-clause-traversed : goal.returns-clause-traversed
@@ -16,6 +16,12 @@ pub returns-clause-ended : goal.returns-clause-ended
 returns-clause-ended g c = λ closed.
     let done : c.self.inside.output.closed ≡ true = ap (λ s. s.out.closed) c.self.view_is ∙ closed in
     rw (c.from_vec.ensures, c.from_vec-2.ensures, c.into_queued.ensures) (ended _ _ done c.self.invariant.kept)
+
+pub returns-clause-reachable : goal.returns-clause-reachable
+returns-clause-reachable g c = λ none.
+    let landed : flying c.self.inside.table ≡ 0 = rw (ap (λ s. s.table) c.self.view_is) c.requires in
+    let left : queued_links (marks c.self.inside.table) ≡ [] = sym (c.from_vec-2.ensures ∙ c.into_queued.ensures) ∙ none in
+    rw (c.from_vec.ensures, c.from_vec-2.ensures, c.into_queued.ensures) (reachable _ _ landed left c.self.invariant.kept)
 
 pub returns-clause-written : goal.returns-clause-written
 returns-clause-written g c = λ closed clear before told.

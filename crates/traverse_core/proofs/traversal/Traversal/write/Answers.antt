@@ -1,9 +1,5 @@
-use Rattle.std.proofs.Common.{refl}
-use Rattle.traverse_core.proofs.Kept.{stays_tied, wrote_ill, wrote_well}
+use Rattle.traverse_core.proofs.Kept.{wrote_ill, wrote_well}
 use Rattle.traverse_core.proofs.traversal.Traversal.write.Goals as goal
-
-pub invariant_of-self : goal.invariant_of-self
-invariant_of-self g c = stays_tied _ _ _ _ _ _ _ _ c.self.invariant (record { is = refl; out = c.in_err-written.ensures.err })
 
 pub invariant_of-self-in-Failed : goal.invariant_of-self-in-Failed
 invariant_of-self-in-Failed g c = wrote_ill _ _ _ _ _ _ _ _ _ c.self.invariant c.in-Failed.is c.in_ok-written.ensures.step

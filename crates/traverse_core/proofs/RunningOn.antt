@@ -1,0 +1,173 @@
+-- What each step leaves of the entries and of the sink's faults, and that writing comes to an end.
+use Rattle.std.proofs.Common.{ℕ, ◌≡◌, ◌+◌, ◌-◌, ◌<◌, ◌≤◌, List, [], ◌∷◌, ◌++◌, Option, Some, None, Bool, true, false, refl, sym, ◌∙◌, ap, subst, arith, length, length-append, append-nil, append_assoc, drop}
+use Rattle.std.specs.Prelude.{◌^◌, ◌==◌, ◌&&◌, min, not, is_none, if◌then◌else◌, IsTrue}
+use Rattle.std.proofs.Math.Seq.{drop-append_seam, drop-length}
+use Rattle.std.proofs.lemmas.List.{length-drop, drop-drop}
+use Rattle.std.proofs.lemmas.Bool.Decides.{nat_tests}
+use Rattle.outer_ports.specs.Causes.{Rose}
+use Rattle.rows_core.specs.Rows.{Cells}
+use Rattle.reach_terms.specs.declared.record.Entry.{Entry}
+use Rattle.row_writer.specs.declared.written.Written.{Written}
+use Rattle.row_writer.specs.declared.written.Written.TheVariants.{Wrote, Clear, Failed}
+use Rattle.row_writer.specs.Output.{Output, piece, waiting_text, text_made, with_text, WritesSome, KeepsText, closed_by}
+use Rattle.row_writer.proofs.Due.{SameRows, wrote_faults, wrote_same, kept_same}
+use Rattle.traverse_core.specs.declared.steps.Halt.{Halt}
+use Rattle.traverse_core.specs.declared.steps.Halt.TheVariants as halt
+use Rattle.traverse_core.specs.Run.{Run}
+use Rattle.traverse_core.specs.State.{State, is_running}
+use Rattle.traverse_core.specs.Steps.{WritesOut, Closes, halted_by_memory}
+use Rattle.traverse_core.specs.Alone.{RunsOn, SameLinks, entries_since}
+
+-- ---- counts that rose
+
+rose_least : (a b c m : ℕ) → a ≤ b → min (b + 1) m ≤ c → min (a + 1) m ≤ c
+rose_least a b c m l h = omega arith
+
+rose_from : (a b c : ℕ) → a ≤ b → Rose b c → Rose a c
+rose_from a b c l h = rose_least a b c (2 ^ 64 - 1) l h
+
+-- ---- entries behind others
+
+behind : {X : Type 0} (xs ys zs : List X) → ys ≡ xs ++ zs → ys ≡ xs ++ drop (length xs) ys
+behind xs ys zs e = e ∙ ap (λ (l : List _). xs ++ l) (sym (drop-append_seam xs zs) ∙ ap (λ (l : List _). drop (length xs) l) (sym e))
+
+-- the same entries, and the run is not halted by output
+pub on_same : (s t : State) → t.entries ≡ s.entries → s.out.faults ≤ t.out.faults → (t.halted ≡ Some halt.Output → Rose s.out.faults t.out.faults) → RunsOn s t
+on_same s t e l f = record { entries = behind s.entries t.entries [] (e ∙ sym (append-nil s.entries)); later = l; failed = f }
+
+pub on_none : (s : State) → s.halted ≡ None → RunsOn s s
+on_none s h = on_same s s refl (omega arith) (λ f. absurd (cc))
+
+-- one more entry; the output stays
+pub on_entry : (s t : State) (e : Entry) → s.halted ≡ None → t.entries ≡ s.entries ++ e ∷ [] → t.out ≡ s.out → t.halted ≡ s.halted → RunsOn s t
+on_entry s t e h is out halted = record {
+  entries = behind s.entries t.entries (e ∷ []) is;
+  later = let f = ap (λ (o : Output). o.faults) out in omega arith;
+  failed = λ f. absurd (cc);
+}
+
+-- nothing but the table changes
+pub on_table : (s t : State) → s.halted ≡ None → t ≡ record s { table = t.table } → RunsOn s t
+on_table s t h e = on_same s t (ap (λ (x : State). x.entries) e) (let f = ap (λ (x : State). x.out.faults) e in omega arith) (λ f. let g = ap (λ (x : State). x.halted) e in absurd (cc))
+
+pub runs_on : (s t u : State) → RunsOn s t → RunsOn t u → RunsOn s u
+runs_on s t u a b =
+    let x = a.later in
+    let y = b.later in
+    record {
+      entries = behind s.entries u.entries (entries_since s t ++ entries_since t u)
+          (b.entries ∙ (ap (λ (l : List Entry). l ++ entries_since t u) a.entries ∙ append_assoc s.entries (entries_since s t) (entries_since t u)));
+      later = omega arith;
+      failed = λ h. rose_from s.out.faults t.out.faults u.out.faults a.later (b.failed h);
+    }
+
+-- ---- halting
+
+was_output : (h : Option Halt) → (if is_none h then Some halt.Memory else h) ≡ Some halt.Output → h ≡ Some halt.Output
+was_output None e = absurd (cc)
+was_output (Some x) e = e
+
+pub on_halted : (s t u : State) → u ≡ halted_by_memory t → RunsOn s t → RunsOn s u
+on_halted s t u e k =
+    subst (RunsOn s) (sym e) (record { entries = k.entries; later = k.later; failed = λ h. k.failed (was_output t.halted h) })
+
+some_halt : (h : Option Halt) → (if is_none h then Some halt.Memory else h) ≡ None → ⊥
+some_halt None e = absurd (cc)
+some_halt (Some x) e = absurd (cc)
+
+-- once halted it is halted
+pub is_halted : (s t : State) → t ≡ halted_by_memory s → t.halted ≡ None → ⊥
+is_halted s t e h = some_halt s.halted (sym (ap (λ (x : State). x.halted) e) ∙ h)
+
+-- ---- writing
+
+running_parts : (closed : Bool) (h : Option Halt) → (not closed && is_none h) ≡ true → (closed ≡ false) × (h ≡ None)
+running_parts false None e = (refl, refl)
+running_parts false (Some x) e = absurd (cc)
+running_parts true h e = absurd (cc)
+
+pub running_whole : (s : State) → IsTrue (is_running s) → s.halted ≡ None
+running_whole s e = (running_parts s.out.closed s.halted e).1
+
+pub running_again : (s t : State) → IsTrue (is_running s) → t.out.closed ≡ s.out.closed → t.halted ≡ None → IsTrue (is_running t)
+running_again s t r c h =
+    let p = running_parts s.out.closed s.halted r in
+    let o : t.out.closed ≡ false = c ∙ p.0 in
+    ap (λ (b : Bool). not b && is_none t.halted) o ∙ ap (λ (x : Option Halt). true && is_none x) h
+
+same_out : (s t : State) → t ≡ record s { out = t.out } → SameRows s.out t.out → SameLinks s t
+same_out s t e same = record { table = ap (λ (x : State). x.table) e; entries = ap (λ (x : State). x.entries) e; log = ap (λ (x : State). x.log) e; closed = same.closed }
+
+pub same_none : (s : State) → SameLinks s s
+same_none s = record { table = refl; entries = refl; log = refl; closed = refl }
+
+pub same_on : (s t u : State) → SameLinks s t → SameLinks t u → SameLinks s u
+same_on s t u a b = record { table = b.table ∙ a.table; entries = b.entries ∙ a.entries; log = b.log ∙ a.log; closed = b.closed ∙ a.closed }
+
+-- what a step of writing leaves
+pub record WroteOn (s t : State) : Type 0 where
+  pub on : RunsOn s t
+  pub same : SameLinks s t
+  pub drawn : t.drawn ≡ s.drawn
+
+pub wrote_none : (s : State) → s.halted ≡ None → WroteOn s s
+wrote_none s h = record { on = on_none s h; same = same_none s; drawn = refl }
+
+pub wrote_on : (s t u : State) → WroteOn s t → WroteOn t u → WroteOn s u
+wrote_on s t u a b = record { on = runs_on s t u a.on b.on; same = same_on s t u a.same b.same; drawn = b.drawn ∙ a.drawn }
+
+pub step_wrote : (s t : State) (w : Written) → s.halted ≡ None → WritesOut s t w → WroteOn s t
+step_wrote s t Wrote h w = record {
+  on = on_same s t (ap (λ (x : State). x.entries) w.1) (let f = wrote_faults s.out t.out w.0 in omega arith) (λ f. let g = ap (λ (x : State). x.halted) w.1 in absurd (cc));
+  same = same_out s t w.1 (wrote_same s.out t.out w.0);
+  drawn = ap (λ (x : State). x.drawn) w.1;
+}
+step_wrote s t Clear h w = subst (WroteOn s) (sym w.1) (wrote_none s h)
+step_wrote s t Failed h w =
+    let same = kept_same s.out t.out w.0 in
+    record {
+      on = on_same s t (ap (λ (x : State). x.entries) w.2) w.0.later (λ f. w.1);
+      same = record { table = ap (λ (x : State). x.table) w.2; entries = ap (λ (x : State). x.entries) w.2; log = ap (λ (x : State). x.log) w.2; closed = same.closed };
+      drawn = ap (λ (x : State). x.drawn) w.2;
+    }
+
+-- writing some does not halt
+pub wrote_whole : (s t : State) → s.halted ≡ None → WritesOut s t Wrote → t.halted ≡ None
+wrote_whole s t h w = ap (λ (x : State). x.halted) w.1 ∙ h
+
+-- closing, where all was written: the rows are the output's, and the entries stay
+pub closed_on : (run : Run) (s t : State) → s.halted ≡ None → Closes run s t → RunsOn s t
+closed_on run s t h c =
+    on_same s t (ap (λ (x : State). x.entries) c.is) (let f = ap (λ (x : State). x.out.faults) c.is in omega arith) (λ f. let g = ap (λ (x : State). x.halted) c.is in absurd (cc))
+
+-- ---- how much text is left
+
+-- the bytes that are pending, and those of the rows that wait
+abbrev pub text_left : Output → ℕ
+text_left o = length o.pending + length (waiting_text o.names o.closed (o.handed == 0) (drop o.handed o.rows))
+
+not_first : (h : ℕ) → (h + 1 == 0) ≡ false
+not_first h = grind (arith, nat_tests)
+
+made_left : (o : Output) (xs : List ℕ) (rows : List Cells) → o.pending ≡ xs → drop o.handed o.rows ≡ rows → text_left (text_made o xs rows) ≡ text_left o
+made_left o (x ∷ xs) rows e f = refl
+made_left o [] [] e f = refl
+made_left o [] (row ∷ rest) e f =
+    let text = piece o.names o.closed (o.handed == 0) row rest in
+    let later : drop (o.handed + 1) o.rows ≡ rest = sym (drop-drop 1 o.handed o.rows) ∙ ap (drop 1) f in
+    let now : length (waiting_text o.names o.closed (o.handed == 0) (drop o.handed o.rows)) ≡ length text + length (waiting_text o.names o.closed false rest) =
+    ap (λ (l : List Cells). length (waiting_text o.names o.closed (o.handed == 0) l)) f ∙ length-append text (waiting_text o.names o.closed false rest) in
+    let behind_it : length (waiting_text o.names o.closed (o.handed + 1 == 0) (drop (o.handed + 1) o.rows)) ≡ length (waiting_text o.names o.closed false rest) =
+    ap (λ b. length (waiting_text o.names o.closed b (drop (o.handed + 1) o.rows))) (not_first o.handed) ∙ ap (λ (l : List Cells). length (waiting_text o.names o.closed false l)) later in
+    let none = ap (λ (l : List ℕ). length l) e in
+    omega arith
+
+-- each write leaves less
+pub wrote_less : (o p : Output) → WritesSome o p → text_left p < text_left o
+wrote_less o p w =
+    let made = made_left o o.pending (drop o.handed o.rows) refl refl in
+    let left = ap text_left w.is in
+    let gone = length-drop w.count (with_text o).pending in
+    let some = w.some in
+    let within = w.within in
+    omega arith
