@@ -1,4 +1,8 @@
-pub mod Outcomes
 pub mod Splitting
-pub mod Rows
-pub mod Sites
+pub mod Many
+pub mod Ends
+pub mod Turning
+pub mod Reports
+pub mod Complete
+pub mod Seeds
+pub mod Reading

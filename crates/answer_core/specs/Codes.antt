@@ -1,11 +1,91 @@
--- The exit codes (docs/FORMATS.md, "Exit codes").
-use Rattle.std.specs.Prelude.{ℕ}
+-- The exit codes, and which of them a run that came to its end has (docs/FORMATS.md, "Exit codes").
+use Rattle.std.specs.Prelude.{ℕ, ◌≡◌, ◌≢◌, List, [], ◌∷◌, Option, Some, None, length}
+use Rattle.reach_terms.specs.declared.record.Record.{Record}
+use Rattle.run_report.specs.Report.{failures}
 use Rattle.answer_core.specs.declared.status.Status.{Status}
-use Rattle.answer_core.specs.declared.status.Status.TheVariants.{Ok, Input, Output, Memory, NotBuilt}
+use Rattle.answer_core.specs.declared.status.Status.TheVariants.{Ok, Partial, Limit, Site, Input, Output, Memory, Report, NotBuilt}
 
 abbrev pub code_of : Status → ℕ
 code_of Ok = 0
+code_of Partial = 3
+code_of Limit = 4
+code_of (Site at) = 6
 code_of Input = 7
 code_of Output = 8
 code_of Memory = 10
+code_of Report = 11
 code_of NotBuilt = 12
+
+-- by what failed
+abbrev pub failed_status : {X : Type 0} → List X → Status
+failed_status [] = Ok
+failed_status (f ∷ fs) = Partial
+
+-- by what is queued, then by what failed
+abbrev pub status_by : {X : Type 0} → List (List ℕ) → List X → Status
+status_by [] failed = failed_status failed
+status_by (link ∷ links) failed = Limit
+
+-- how a run that came to its end ended, but for its report
+abbrev pub ended_status : Record → Status
+ended_status r = status_by r.queued (failures r.entries)
+
+-- ---- by the status
+
+-- a run that came to its end
+abbrev pub HasEnd : Status → Type 0
+HasEnd Ok = Unit {0}
+HasEnd Partial = Unit {0}
+HasEnd Limit = Unit {0}
+HasEnd (Site at) = ⊥
+HasEnd Input = ⊥
+HasEnd Output = ⊥
+HasEnd Memory = ⊥
+HasEnd Report = Unit {0}
+HasEnd NotBuilt = ⊥
+
+-- what the record of a run that came to its end says, by its status; since the first three of these
+-- exclude each other, each comes exactly where it says, but for a fault of the report
+abbrev pub IsCoded : ℕ → Status → Record → Type 0
+IsCoded limit Ok r = (r.queued ≡ []) × (failures r.entries ≡ [])
+IsCoded limit Partial r = (r.queued ≡ []) × (failures r.entries ≢ [])
+IsCoded limit Limit r = (r.queued ≢ []) × (length r.entries ≡ limit)
+IsCoded limit (Site at) r = Unit {0}
+IsCoded limit Input r = Unit {0}
+IsCoded limit Output r = Unit {0}
+IsCoded limit Memory r = Unit {0}
+IsCoded limit Report r = Unit {0}
+IsCoded limit NotBuilt r = Unit {0}
+
+-- before the report: the status is that of the record, or there is none
+abbrev pub Fits : Status → Option Record → Type 0
+Fits Ok (Some r) = ended_status r ≡ Ok
+Fits Partial (Some r) = ended_status r ≡ Partial
+Fits Limit (Some r) = ended_status r ≡ Limit
+Fits (Site at) (Some r) = ⊥
+Fits Input (Some r) = ⊥
+Fits Output (Some r) = Unit {0}
+Fits Memory (Some r) = Unit {0}
+Fits Report (Some r) = ⊥
+Fits NotBuilt (Some r) = ⊥
+Fits Ok None = ⊥
+Fits Partial None = ⊥
+Fits Limit None = ⊥
+Fits (Site at) None = Unit {0}
+Fits Input None = Unit {0}
+Fits Output None = ⊥
+Fits Memory None = Unit {0}
+Fits Report None = ⊥
+Fits NotBuilt None = Unit {0}
+
+-- a run that came to its end and was reported, or want of memory
+abbrev pub IsWhole : Status → Type 0
+IsWhole Ok = Unit {0}
+IsWhole Partial = Unit {0}
+IsWhole Limit = Unit {0}
+IsWhole (Site at) = ⊥
+IsWhole Input = ⊥
+IsWhole Output = ⊥
+IsWhole Memory = Unit {0}
+IsWhole Report = ⊥
+IsWhole NotBuilt = ⊥

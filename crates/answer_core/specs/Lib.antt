@@ -1,6 +1,9 @@
-pub mod Codes
 pub mod Words
 pub mod Query
-pub mod Site
-pub mod Solutions
-pub mod Outcome
+pub mod Command
+pub mod Bodies
+pub mod Codes
+pub mod Headline
+pub mod Input
+pub mod Reported
+pub mod Running

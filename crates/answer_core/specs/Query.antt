@@ -1,5 +1,5 @@
 -- The queries that are built so far: one selected variable and one triple pattern, as eight pieces
--- parted by single spaces, `SELECT ?v WHERE { place place place }` (docs/FORMATS.md, "The first form").
+-- parted by single spaces, `SELECT ?v WHERE { place place place }` (docs/FORMATS.md, "The built words").
 -- What the pieces mean is SPARQL 1.1 Query Language, sections 5.1 and 16.1.
 use Rattle.std.specs.Prelude.{ℕ, List, [], ◌∷◌, ◌&&◌, Bool, false, Option, Some, None, bytes_eq, codes, if◌then◌else◌, nat_le, nat_eq, length, drop}
 use Rattle.std.specs.List.{slice_split, list_all, starts_with}
@@ -7,6 +7,8 @@ use Rattle.rdf_terms.specs.declared.term.Term.TheVariants as term
 use Rattle.rows_core.specs.declared.pattern.Spot.{Spot}
 use Rattle.rows_core.specs.declared.pattern.Spot.TheVariants.{Term as Fixed, Var}
 use Rattle.rows_core.specs.declared.pattern.TriplePattern.{TriplePattern}
+use Rattle.algebra_core.specs.declared.algebra.Algebra.{Bgp}
+use Rattle.algebra_core.specs.declared.query.Query.{Query}
 use Rattle.plain_triples.specs.Pieces.{iri_of, is_byte}
 use Rattle.answer_core.specs.declared.query.Place.{Place}
 use Rattle.answer_core.specs.declared.query.Place.TheVariants.{Variable, Iri}
@@ -70,3 +72,14 @@ spot_of q (Iri iri) = Fixed (term.Iri iri)
 -- the triple pattern, with a number for each variable
 abbrev pub pattern_of : PatternQuery → TriplePattern
 pattern_of q = record { s = spot_of q q.s; p = spot_of q q.p; o = spot_of q q.o }
+
+-- the query of the algebra: the selected variable has number 0 and a name; no result shows the others
+abbrev pub whole_query : PatternQuery → Query
+whole_query q = record {
+  names = q.selected ∷ [];
+  width = 4;
+  select = 0 ∷ [];
+  distinct = false;
+  body = Bgp (pattern_of q ∷ []);
+  order = [];
+}

@@ -1,123 +1,124 @@
-ghost use Rattle.std.specs.Prelude.{◌≡◌, ◌⊎◌, ℕ, IfOk, List, map, string_bytes, None, Some};
+ghost use Rattle.std.specs.Prelude.{◌≡◌, ◌⊎◌, ◌<◌, ◌≤◌, ◌+◌, ℕ, List, map, string_bytes, None, Some, IfSome, true, length};
+ghost use Rattle.std.specs.Io.KnownBytes.{IsAtEnd};
+ghost use Rattle.link_uri.specs.Links.{AreLinks};
 ghost use Rattle.outer_ports.specs.Causes.{Rose};
-ghost use Rattle.answer_core.specs.declared.query.PatternQuery.{PatternQuery};
-ghost use Rattle.answer_core.specs.Words.{Given, given_of};
-ghost use Rattle.answer_core.specs.Query.{query_of};
-ghost use Rattle.answer_core.specs.Site.{IsBuilt};
-ghost use Rattle.answer_core.specs.Solutions.{solutions, result_text};
-ghost use Rattle.answer_core.specs.Outcome.{Outcome, Answered, Writes};
+ghost use Rattle.site_core.specs.Text.{Entry, SiteText, site_limit};
+ghost use Rattle.answer_core.specs.Bodies.{are_built as are_built_bodies};
+ghost use Rattle.answer_core.specs.Codes.{HasEnd, IsCoded, IsWhole, Fits};
+ghost use Rattle.answer_core.specs.Command.{command_of};
+ghost use Rattle.answer_core.specs.declared.command.Command.{Command as Asked};
+ghost use Rattle.answer_core.specs.Headline.{Traversed, Written};
+ghost use Rattle.answer_core.specs.Input.{Saw, SawInput};
+ghost use Rattle.answer_core.specs.Reported.{Reported};
 
 use crate::Status;
-use crate::query::{PatternQuery, query_of};
-use crate::results::result_bytes;
-use crate::site::{INPUT_LIMIT, read_input};
-use crate::solutions::solve;
-use crate::words::given;
-use outer_ports::{Sink, SinkFault, Source, SourceFault, read_all, write_all};
-use rdf_terms::{ByteBuf, Memory, Triple};
+use crate::bodies::are_built;
+use crate::command::{Command, read_words};
+use crate::report::tell;
+use crate::running::{Answer, run_command, without_record};
+use outer_ports::{Sink, Source, SourceFault, read_all};
+use site_core::{Site, SiteFault, read_site};
 use std::alloc::Global;
 
-/// The status of a run, and the sink that it wrote to.
-#[derive(Drop)]
-pub struct Answer<S> {
-    pub status: Status,
-    pub out: S,
-}
+/// The most bytes of an input.
+const INPUT_LIMIT: usize = 67_108_864;
 
-fn write_text<S: Sink>(text: &[u8], out: &mut S) -> Status
-    ensures writes { Writes result text.now (S.content out.old) (S.content out.new) }
-    ensures cause { result ≡ Status.Output → Rose (S.faults out.old) (S.faults out.new) }
-    ensures calm { result ≡ Status.Ok → S.faults out.new ≡ S.faults out.old }
+fn answer_site<S: Sink>(alloc: Global, command: Command, site: Site, out: S) -> Answer<S>
+    requires own { AreLinks command.seeds }
+    ensures traversed { Traversed command result.status result.trace }
+    ensures written { Written command result.status result.trace (S.content out) (S.content result.out) }
+    ensures fits { Fits result.status result.trace }
+    ensures output { result.status ≡ Status.Output → Rose (S.faults out) (S.faults result.out) }
+    ensures untouched { result.trace ≡ None → result.out ≡ out }
+    ensures saw { (bytes : List ℕ) → SiteText site bytes → Saw command result.status result.trace bytes (length bytes ≤ site_limit) }
+    ensures input { result.status ≡ Status.Input → ⊥ }
 {
-    match write_all(out, text) {
-        Ok(()) => Status::Ok,
-        Err(SinkFault::Failed) => Status::Output,
-        Err(SinkFault::Memory) => Status::Memory,
+    match are_built(alloc, site.entries()) {
+        Ok(true) => run_command(alloc, command, site, out),
+        Ok(false) => without_record(Status::NotBuilt, out),
+        Err(_) => without_record(Status::Memory, out),
     }
 }
 
-fn solved_text(alloc: Global, query: &PatternQuery, triples: &[Triple]) -> Result<ByteBuf, Memory>
-    ensures { IfOk result (λ text. text ≡ result_text query.now (solutions query.now triples.now)) }
+/// Runs the command over the site that the bytes are.
+fn answer_bytes<S: Sink>(alloc: Global, command: Command, bytes: &[u8], out: S) -> Answer<S>
+    requires own { AreLinks command.seeds }
+    requires most { length bytes.now ≤ site_limit + 1 }
+    ensures traversed { Traversed command result.status result.trace }
+    ensures written { Written command result.status result.trace (S.content out) (S.content result.out) }
+    ensures fits { Fits result.status result.trace }
+    ensures output { result.status ≡ Status.Output → Rose (S.faults out) (S.faults result.out) }
+    ensures untouched { result.trace ≡ None → result.out ≡ out }
+    ensures saw { Saw command result.status result.trace bytes.now (length bytes.now ≤ site_limit) }
+    ensures input { result.status ≡ Status.Input → ⊥ }
 {
-    let rows = solve(alloc, query, triples)?;
-    result_bytes(alloc, query, rows.as_slice())
-}
-
-/// Writes the answer over the input that was read.
-fn answer_input<S: Sink>(
-    alloc: Global,
-    query: &PatternQuery,
-    seed: &str,
-    input: &[u8],
-    out: &mut S,
-) -> Status
-    ensures outcome { Outcome result query.now seed.now input.now (Unit {0}) (S.content out.old) (S.content out.new) }
-    ensures input { result ≡ Status.Input → ⊥ }
-    ensures output { result ≡ Status.Output → Rose (S.faults out.old) (S.faults out.new) }
-    ensures calm { result ≡ Status.Ok → S.faults out.new ≡ S.faults out.old }
-{
-    let triples = match read_input(alloc, seed, input) {
-        Ok(Some(triples)) => triples,
-        Ok(None) => return Status::NotBuilt,
-        Err(_) => return Status::Memory,
-    };
-    match solved_text(alloc, query, triples.as_slice()) {
-        Ok(text) => write_text(text.as_slice(), out),
-        Err(_) => Status::Memory,
+    match read_site(alloc, bytes) {
+        Ok(site) => answer_site(alloc, command, site, out),
+        Err(SiteFault::Bad { at }) => without_record(Status::Site { at }, out),
+        Err(SiteFault::Memory) => without_record(Status::Memory, out),
     }
 }
 
-/// Reads the input whole, or as much of it as shows that it is too long, and writes the answer.
-fn answer_query<I: Source, S: Sink>(
+/// Reads the input whole, or as much of it as shows that it is too long, and runs the command.
+fn answer_command<I: Source, S: Sink>(
     alloc: Global,
-    query: &PatternQuery,
-    seed: &str,
+    command: Command,
     input: &mut I,
-    out: &mut S,
-) -> Status
-    ensures outcome { Answered result query.now seed.now (I.left input.old) (I.left input.new) (Rose (I.ends input.old) (I.ends input.new)) (S.content out.old) (S.content out.new) }
-    ensures input { result ≡ Status.Input → Rose (I.faults input.old) (I.faults input.new) }
-    ensures output { result ≡ Status.Output → Rose (S.faults out.old) (S.faults out.new) }
-    ensures calm { result ≡ Status.Ok → (I.faults input.new ≡ I.faults input.old) × (S.faults out.new ≡ S.faults out.old) }
+    out: S,
+) -> Answer<S>
+    requires own { AreLinks command.seeds }
+    ensures traversed { Traversed command result.status result.trace }
+    ensures written { Written command result.status result.trace (S.content out) (S.content result.out) }
+    ensures fits { Fits result.status result.trace }
+    ensures output { result.status ≡ Status.Output → Rose (S.faults out) (S.faults result.out) }
+    ensures untouched { result.trace ≡ None → result.out ≡ out }
+    ensures saw { SawInput command result.status result.trace (I.left input.old) (I.left input.new)
+        (Rose (I.ends input.old) (I.ends input.new) × IsAtEnd (I.left input.new)) }
+    ensures input { result.status ≡ Status.Input → Rose (I.faults input.old) (I.faults input.new) }
+    ensures calm { HasEnd result.status → I.faults input.new ≡ I.faults input.old }
 {
-    let bytes = match read_all(alloc, input, INPUT_LIMIT + 1) {
-        Ok(bytes) => bytes,
-        Err(SourceFault::Failed) => return Status::Input,
-        Err(SourceFault::Memory) => return Status::Memory,
-    };
-    answer_input(alloc, query, seed, bytes.as_slice(), out)
+    match read_all(alloc, input, INPUT_LIMIT + 1) {
+        Ok(bytes) => answer_bytes(alloc, command, bytes.as_slice(), out),
+        Err(SourceFault::Failed) => without_record(Status::Input, out),
+        Err(SourceFault::Memory) => without_record(Status::Memory, out),
+    }
 }
 
-/// Answers a query's text over the input.
-fn answer_text<I: Source, S: Sink>(
+fn answer_words<I: Source, S: Sink>(
     alloc: Global,
-    text: &str,
-    seed: &str,
+    words: &[String],
     input: &mut I,
-    out: &mut S,
-) -> Status
-    ensures query { query_of text.now ≡ None →
-        ((result ≡ Status.NotBuilt) ⊎ (result ≡ Status.Memory)) × (input.new ≡ input.old) × (out.new ≡ out.old) }
-    ensures outcome { (query : PatternQuery) → query_of text.now ≡ Some query →
-        Answered result query seed.now (I.left input.old) (I.left input.new)
-        (Rose (I.ends input.old) (I.ends input.new)) (S.content out.old) (S.content out.new) }
-    ensures input { result ≡ Status.Input → Rose (I.faults input.old) (I.faults input.new) }
-    ensures output { result ≡ Status.Output → Rose (S.faults out.old) (S.faults out.new) }
-    ensures calm { result ≡ Status.Ok → (I.faults input.new ≡ I.faults input.old) × (S.faults out.new ≡ S.faults out.old) }
+    out: S,
+) -> Answer<S>
+    ensures words { command_of (map string_bytes words.now) ≡ None →
+        ((result.status ≡ Status.NotBuilt) ⊎ (result.status ≡ Status.Memory)) × (result.trace ≡ None) × (input.new ≡ input.old) × (result.out ≡ out) }
+    ensures traversed { (command : Asked) → command_of (map string_bytes words.now) ≡ Some command →
+        Traversed command result.status result.trace }
+    ensures written { (command : Asked) → command_of (map string_bytes words.now) ≡ Some command →
+        Written command result.status result.trace (S.content out) (S.content result.out) }
+    ensures saw { (command : Asked) → command_of (map string_bytes words.now) ≡ Some command →
+        SawInput command result.status result.trace (I.left input.old) (I.left input.new)
+        (Rose (I.ends input.old) (I.ends input.new) × IsAtEnd (I.left input.new)) }
+    ensures fits { Fits result.status result.trace }
+    ensures output { result.status ≡ Status.Output → Rose (S.faults out) (S.faults result.out) }
+    ensures untouched { result.trace ≡ None → result.out ≡ out }
+    ensures input { result.status ≡ Status.Input → Rose (I.faults input.old) (I.faults input.new) }
+    ensures calm { HasEnd result.status → I.faults input.new ≡ I.faults input.old }
 {
-    let query = match query_of(alloc, text) {
-        Ok(Some(query)) => query,
-        Ok(None) => return Status::NotBuilt,
-        Err(_) => return Status::Memory,
-    };
-    answer_query(alloc, &query, seed, input, out)
+    match read_words(alloc, words) {
+        Ok(Some(command)) => answer_command(alloc, command, input, out),
+        Ok(None) => without_record(Status::NotBuilt, out),
+        Err(_) => without_record(Status::Memory, out),
+    }
 }
 
-/// Answers the words `site --criterion none --workers 0 QUERY SEED` over the site that the input
-/// holds: writes the results of the query to `out`, and tells how it ended.
+/// Answers the words `site --criterion all|none [--limit N] --workers 0 QUERY SEED..` over the site
+/// that the input holds: looks up links from the seeds on, writes the answers of the query to `out`,
+/// tells in `report` what was looked up and what failed, and how it ended.
 ///
-/// Where the words, the query or the input aren't of the first form of docs/FORMATS.md, the status
-/// is `NotBuilt` unless reading failed or memory ran out, and nothing is written. `report` is left as it is. It costs time linear in the input.
+/// Where the words, the query or a body of the site aren't of the forms of docs/FORMATS.md, the
+/// status is `NotBuilt` unless reading failed or memory ran out, and nothing is written to `out`. It
+/// costs what reading the input, the look-ups and the answers cost.
 pub fn answer_alone<I: Source, S: Sink, R: Sink>(
     alloc: Global,
     words: &[String],
@@ -125,42 +126,49 @@ pub fn answer_alone<I: Source, S: Sink, R: Sink>(
     out: S,
     report: &mut R,
 ) -> Answer<S>
-    // Words and a query that are not of the built form: nothing is read and nothing written.
-    ensures words { given_of (map string_bytes words.now) ≡ None →
-        (result.status ≡ Status.NotBuilt) × (input.new ≡ input.old) × (result.out ≡ out) }
-    ensures query { (given : Given) → given_of (map string_bytes words.now) ≡ Some given → query_of given.query ≡ None →
-        ((result.status ≡ Status.NotBuilt) ⊎ (result.status ≡ Status.Memory)) × (input.new ≡ input.old) × (result.out ≡ out) }
+    // Words, a query or seeds that are not of the built form: nothing is read.
+    ensures words { command_of (map string_bytes words.now) ≡ None →
+        ((result.status ≡ Status.NotBuilt) ⊎ (result.status ≡ Status.Memory)) × (result.trace ≡ None) × (input.new ≡ input.old) × (result.out ≡ out) }
 
-    // Words and a query of the built form: what was read, and what was written of it.
-    ensures outcome { (given : Given) → given_of (map string_bytes words.now) ≡ Some given →
-        (query : PatternQuery) → query_of given.query ≡ Some query →
-        Answered result.status query given.seed (I.left input.old) (I.left input.new)
-        (Rose (I.ends input.old) (I.ends input.new)) (S.content out) (S.content result.out) }
+    // Which links were looked up, and what was written.
+    ensures traversed { (command : Asked) → command_of (map string_bytes words.now) ≡ Some command →
+        Traversed command result.status result.trace }
+    ensures written { (command : Asked) → command_of (map string_bytes words.now) ≡ Some command →
+        Written command result.status result.trace (S.content out) (S.content result.out) }
+
+    // What was read, and that the record is faithful to it.
+    ensures input { (command : Asked) → command_of (map string_bytes words.now) ≡ Some command →
+        SawInput command result.status result.trace (I.left input.old) (I.left input.new)
+        (Rose (I.ends input.old) (I.ends input.new) × IsAtEnd (I.left input.new)) }
+
+    // How the status follows from the record.
+    ensures codes { (command : Asked) → command_of (map string_bytes words.now) ≡ Some command →
+        IfSome result.trace (IsCoded command.limit result.status) }
+
+    // Without a record nothing was written.
+    ensures untouched { result.trace ≡ None → result.out ≡ out }
+
+    // What the report received.
+    ensures report { Reported result.status result.trace (R.content report.old) (R.content report.new)
+        (Rose (R.faults report.old) (R.faults report.new)) }
 
     // Each fault has its cause.
-    ensures input { result.status ≡ Status.Input → Rose (I.faults input.old) (I.faults input.new) }
-    ensures output { result.status ≡ Status.Output → Rose (S.faults out) (S.faults result.out) }
+    ensures input_cause { result.status ≡ Status.Input → Rose (I.faults input.old) (I.faults input.new) }
+    ensures output_cause { result.status ≡ Status.Output → Rose (S.faults out) (S.faults result.out) }
+    ensures report_cause { result.status ≡ Status.Report → Rose (R.faults report.old) (R.faults report.new) }
 
-    // With status Ok neither count of faults rose.
+    // With status Ok the input's count of faults and the report's did not rise.
     ensures calm { result.status ≡ Status.Ok →
-        (I.faults input.new ≡ I.faults input.old) × (S.faults result.out ≡ S.faults out) }
+        (I.faults input.new ≡ I.faults input.old) × (R.faults report.new ≡ R.faults report.old) }
 
-    // Over a told input of the built form, and without faults, the answer is whole.
-    ensures whole { (given : Given) → given_of (map string_bytes words.now) ≡ Some given →
-        (query : PatternQuery) → query_of given.query ≡ Some query →
-        (bytes : List ℕ) → I.left input.old ≡ Some bytes → IsBuilt given.seed bytes →
+    // Over a told input that is a site of the built form, and without faults, the run comes to its end.
+    ensures complete { (command : Asked) → command_of (map string_bytes words.now) ≡ Some command →
+        (bytes : List ℕ) (site : List Entry) → I.left input.old ≡ Some bytes → SiteText site bytes → are_built_bodies site ≡ true →
         (Rose (I.faults input.old) (I.faults input.new) → ⊥) → (Rose (S.faults out) (S.faults result.out) → ⊥) →
-        (result.status ≡ Status.Ok) ⊎ (result.status ≡ Status.Memory) }
-
-    ensures report { report.new ≡ report.old }
+        (Rose (R.faults report.old) (R.faults report.new) → ⊥) →
+        IsWhole result.status }
 {
-    let mut out = out;
-    let Some(given) = given(words) else {
-        return Answer {
-            status: Status::NotBuilt,
-            out,
-        };
-    };
-    let status = answer_text(alloc, given.query, given.seed, input, &mut out);
-    Answer { status, out }
+    let Answer { status, trace, out } = answer_words(alloc, words, input, out);
+    let status = tell(alloc, status, &trace, report);
+    Answer { status, trace, out }
 }

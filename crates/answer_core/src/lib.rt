@@ -1,22 +1,27 @@
 //! The top call: from the words of the command line and the bytes that come in to the bytes that
-//! go out and the status.
+//! go out, the report, and the status.
 //!
-//! Promise: `answer_alone` writes exactly the solutions of the query over the input's document, and
-//! each other status but want of memory has its one cause; the whole statement is in `specs/Outcome.antt`. `Status::code`
-//! is the exit code of each status.
+//! Promise: `answer_alone` follows links over the site that the input holds, and writes exactly the
+//! answers over the merged graph of what it looked up; each other status but want of memory has its
+//! one cause. The whole statement is in `specs/Headline.antt`, `specs/Codes.antt`, `specs/Input.antt`
+//! and `specs/Reported.antt`. `Status::code` is the exit code of each status.
 //! Not here: the real streams, which the program `ltq` makes.
 #![tactic(auto)]
 
 mod answer;
+mod bodies;
+mod command;
+mod limit;
 mod pieces;
 mod query;
-mod results;
-mod site;
-mod solutions;
+mod report;
+mod running;
 mod status;
 #[cfg(test)]
 mod tests;
+mod whole_query;
 mod words;
 
-pub use crate::answer::{Answer, answer_alone};
+pub use crate::answer::answer_alone;
+pub use crate::running::Answer;
 pub use crate::status::Status;

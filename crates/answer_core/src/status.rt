@@ -1,18 +1,29 @@
 ghost use Rattle.std.specs.Prelude.{◌≡◌};
-ghost use Rattle.answer_core.specs.Codes.{code_of};
+ghost use Rattle.answer_core.specs.Codes.{code_of, ended_status};
+
+use reach_terms::Record;
+use run_report::has_failed;
 
 /// How a run ended.
 #[derive(Clone, Copy, Debug, PartialEq, Eq)]
 pub enum Status {
-    /// The whole answer is written, and nothing failed.
+    /// All that is reachable was looked up, the whole answer is written, and nothing failed.
     Ok,
+    /// The same, but a link was refused or couldn't be reached.
+    Partial,
+    /// As many links were looked up as may be, and more are queued.
+    Limit,
+    /// The input is no site; `at` counts the bytes before the first fault.
+    Site { at: usize },
     /// Reading the input failed.
     Input,
     /// Writing the answer failed.
     Output,
     /// Memory ran out.
     Memory,
-    /// The words, the query or the input are of a form that isn't built yet.
+    /// Writing the report failed, after a run that came to its end.
+    Report,
+    /// The words, the query or a body of the site are of a form that isn't built yet.
     NotBuilt,
 }
 
@@ -23,10 +34,27 @@ impl Status {
     {
         match self {
             Status::Ok => 0,
+            Status::Partial => 3,
+            Status::Limit => 4,
+            Status::Site { at: _ } => 6,
             Status::Input => 7,
             Status::Output => 8,
             Status::Memory => 10,
+            Status::Report => 11,
             Status::NotBuilt => 12,
         }
+    }
+}
+
+/// How the run of a record ended, where it came to its end.
+pub(crate) fn ended_status(trace: &Record) -> Status
+    ensures { result ≡ ended_status trace.now }
+{
+    if !trace.queued.is_empty() {
+        Status::Limit
+    } else if has_failed(trace.entries.as_slice()) {
+        Status::Partial
+    } else {
+        Status::Ok
     }
 }

@@ -25,11 +25,8 @@ fn words<R: Env + Alloc<A = Global>>(rt: &R) -> io::Result<Vec<String>> {
     Ok(words)
 }
 
-fn status_of(error: io::Error) -> Status {
-    match error.kind() {
-        io::ErrorKind::OutOfMemory => Status::Memory,
-        _ => Status::NotBuilt,
-    }
+fn is_want_of_memory(error: &io::Error) -> bool {
+    matches!(error.kind(), io::ErrorKind::OutOfMemory)
 }
 
 fn exit_code(status: Status) -> ExitCode
@@ -41,7 +38,9 @@ fn exit_code(status: Status) -> ExitCode
 fn main(rt: HostRuntime) -> ExitCode {
     let words = match words(&rt) {
         Ok(words) => words,
-        Err(error) => return exit_code(status_of(error)),
+        Err(error) if is_want_of_memory(&error) => return exit_code(Status::Memory),
+        // A word is no text, so the words are of no built form.
+        Err(_) => Vec::new(rt.alloc()),
     };
     let mut input = ReadSource::new(rt.reader());
     let out = WriteSink::new(io::writer(&rt));

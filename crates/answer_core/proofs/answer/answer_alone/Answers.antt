@@ -1,18 +1,28 @@
-use Rattle.std.proofs.Common.{sym, ap, subst, ◌∙◌}
+use Rattle.std.specs.Io.KnownBytes.{IsAtEnd}
 use Rattle.outer_ports.specs.Causes.{Rose}
-use Rattle.answer_core.specs.Query.{query_of}
-use Rattle.answer_core.specs.Site.{IsBuilt}
-use Rattle.answer_core.specs.Words.{Given}
-use Rattle.answer_core.proofs.Sites.{same_some}
-use Rattle.answer_core.proofs.Outcomes.{whole}
+use Rattle.answer_core.proofs.Turning.{written_turned, saw_turned, turned_input, turned_output}
+use Rattle.answer_core.proofs.Complete.{complete}
 use Rattle.answer_core.proofs.answer.answer_alone.Goals as goal
 
-pub returns-clause-whole : goal.returns-clause-whole
-returns-clause-whole g c = λ given is query q bytes told built no_read no_write.
-    let run = c.answer_text-status in
-    let own : Given = record { query = c.in-Some.given.query.now; seed = c.in-Some.given.seed.now } in
-    let same = same_some own given (c.in-Some.ensures ∙ is) in
-    let answered = run.ensures.outcome query (ap (λ (w : Given). query_of w.query) same ∙ q) in
-    let built_own = subst (λ (w : Given). IsBuilt w.seed bytes) (sym same) built in
-    whole run.result query own.seed (g.I.Source.left c.args.input.now) (g.I.Source.left run.new.input) (Rose (g.I.Source.ends c.args.input.now) (g.I.Source.ends run.new.input)) (g.S.Sink.content c.args.out) (g.S.Sink.content run.new.out)
-    (Rose (g.I.Source.faults c.args.input.now) (g.I.Source.faults run.new.input)) (Rose (g.S.Sink.faults c.args.out) (g.S.Sink.faults run.new.out)) bytes answered run.ensures.input run.ensures.output told built_own no_read no_write
+pub returns-clause-written : goal.returns-clause-written
+returns-clause-written g c = λ command is.
+    let run = c.answer_words-status in
+    written_turned command run.result.status c.tell-status.result run.result.trace (g.S.Sink.content c.args.out) (g.S.Sink.content run.result.out) c.tell-status.ensures.turned (run.ensures.written command is)
+
+pub returns-clause-input : goal.returns-clause-input
+returns-clause-input g c = λ command is.
+    let run = c.answer_words-status in
+    let left = g.I.Source.left run.new.input in
+    saw_turned command run.result.status c.tell-status.result run.result.trace (g.I.Source.left c.args.input.now) left (Rose (g.I.Source.ends c.args.input.now) (g.I.Source.ends run.new.input) × IsAtEnd left)
+    c.tell-status.ensures.turned run.ensures.fits (run.ensures.saw command is)
+
+pub returns-clause-complete : goal.returns-clause-complete
+returns-clause-complete g c = λ command is bytes site told text built no_read no_write no_report.
+    let run = c.answer_words-status in
+    let left = g.I.Source.left run.new.input in
+    let counted = Rose (g.I.Source.ends c.args.input.now) (g.I.Source.ends run.new.input) in
+    let turned = c.tell-status.ensures.turned in
+    let saw = saw_turned command run.result.status c.tell-status.result run.result.trace (g.I.Source.left c.args.input.now) left (counted × IsAtEnd left) turned run.ensures.fits (run.ensures.saw command is) in
+    complete command c.tell-status.result run.result.trace (g.I.Source.left c.args.input.now) left counted (Rose (g.I.Source.faults c.args.input.now) (g.I.Source.faults run.new.input)) (Rose (g.S.Sink.faults c.args.out) (g.S.Sink.faults run.result.out))
+    (Rose (g.R.Sink.faults c.args.report.now) (g.R.Sink.faults c.tell-status.new.report)) bytes site saw (λ e. run.ensures.input (turned_input run.result.status c.tell-status.result turned e)) (λ e. run.ensures.output (turned_output run.result.status c.tell-status.result turned e)) c.tell-status.ensures.cause told text built
+    no_read no_write no_report

@@ -1,0 +1,154 @@
+-- What the report makes of the status, and what is then still said of the run.
+use Rattle.std.proofs.Common.{ℕ, ◌≡◌, ◌≢◌, ◌⊎◌, List, [], ◌∷◌, Option, Some, None, inl, inr, refl, sym, ap, subst, ◌∙◌}
+use Rattle.std.specs.Prelude.{IfSome, length}
+use Rattle.reach_terms.specs.declared.record.Record.{Record}
+use Rattle.reach_terms.specs.Reach.{Text}
+use Rattle.reach_terms.specs.Record.{HasEnded}
+use Rattle.run_report.specs.Report.{failures}
+use Rattle.answer_core.specs.Codes.{HasEnd, IsCoded, Fits, status_by, ended_status}
+use Rattle.answer_core.specs.declared.command.Command.{Command}
+use Rattle.answer_core.specs.Headline.{HasNoRecord, Traversed, Written}
+use Rattle.answer_core.specs.Input.{Saw, SawInput}
+use Rattle.answer_core.specs.Running.{Turned}
+use Rattle.answer_core.specs.declared.status.Status.{Status}
+use Rattle.answer_core.specs.declared.status.Status.TheVariants.{Ok, Partial, Limit, Site, Input, Output, Memory, Report, NotBuilt}
+
+no_end : (s : Status) → HasEnd s → HasNoRecord s → ⊥
+no_end Ok h n = n
+no_end Partial h n = n
+no_end Limit h n = n
+no_end (Site at) h n = h
+no_end Input h n = h
+no_end Output h n = h
+no_end Memory h n = h
+no_end Report h n = n
+no_end NotBuilt h n = h
+
+-- ---- the record
+
+traversed_report : (c : Command) (s : Status) (t : Option Record) → HasEnd s → Traversed c s t → Traversed c Report t
+traversed_report c s (Some r) h x = (tt, x.1, λ z. x.2 h)
+traversed_report c s None h x = absurd (no_end s h x)
+
+traversed_memory : (c : Command) (s : Status) (t : Option Record) → Traversed c s t → Traversed c Memory t
+traversed_memory c s (Some r) x = (tt, x.1, λ z. absurd z)
+traversed_memory c s None x = tt
+
+pub traversed_turned : (c : Command) (s now : Status) (t : Option Record) → Turned s now → Traversed c s t → Traversed c now t
+traversed_turned c s now t (inl e) x = subst (λ z. Traversed c z t) (sym e) x
+traversed_turned c s now t (inr (inl h)) x = subst (λ z. Traversed c z t) (sym h.1) (traversed_report c s t h.0 x)
+traversed_turned c s now t (inr (inr e)) x = subst (λ z. Traversed c z t) (sym e) (traversed_memory c s t x)
+
+-- ---- what was written
+
+written_report : (c : Command) (s : Status) (t : Option Record) (old new : Option (List ℕ)) → HasEnd s → Written c s t old new → Written c Report t old new
+written_report c s (Some r) old new h x = (λ z. x.0 h, x.1)
+written_report c s None old new h x = x
+
+written_memory : (c : Command) (s : Status) (t : Option Record) (old new : Option (List ℕ)) → Written c s t old new → Written c Memory t old new
+written_memory c s (Some r) old new x = (λ z. absurd z, x.1)
+written_memory c s None old new x = x
+
+pub written_turned : (c : Command) (s now : Status) (t : Option Record) (old new : Option (List ℕ)) → Turned s now → Written c s t old new → Written c now t old new
+written_turned c s now t old new (inl e) x = subst (λ z. Written c z t old new) (sym e) x
+written_turned c s now t old new (inr (inl h)) x = subst (λ z. Written c z t old new) (sym h.1) (written_report c s t old new h.0 x)
+written_turned c s now t old new (inr (inr e)) x = subst (λ z. Written c z t old new) (sym e) (written_memory c s t old new x)
+
+-- ---- what was read
+
+saw_report : (c : Command) (s : Status) (t : Option Record) (bytes : List ℕ) (ended : Type 0) → HasEnd s → Saw c s t bytes ended → Saw c Report t bytes ended
+saw_report c Ok t bytes ended h x = x
+saw_report c Partial t bytes ended h x = x
+saw_report c Limit t bytes ended h x = x
+saw_report c (Site at) t bytes ended h x = absurd h
+saw_report c Input t bytes ended h x = absurd h
+saw_report c Output t bytes ended h x = absurd h
+saw_report c Memory t bytes ended h x = absurd h
+saw_report c Report t bytes ended h x = x
+saw_report c NotBuilt t bytes ended h x = absurd h
+
+saw_some : (c : Command) (s : Status) (r : Record) (bytes : List ℕ) (ended : Type 0) → Fits s (Some r) → Saw c s (Some r) bytes ended → Saw c Memory (Some r) bytes ended
+saw_some c Ok r bytes ended f x = x
+saw_some c Partial r bytes ended f x = x
+saw_some c Limit r bytes ended f x = x
+saw_some c (Site at) r bytes ended f x = absurd f
+saw_some c Input r bytes ended f x = absurd f
+saw_some c Output r bytes ended f x = x
+saw_some c Memory r bytes ended f x = x
+saw_some c Report r bytes ended f x = absurd f
+saw_some c NotBuilt r bytes ended f x = absurd f
+
+saw_memory : (c : Command) (s : Status) (t : Option Record) (bytes : List ℕ) (ended : Type 0) → Fits s t → Saw c s t bytes ended → Saw c Memory t bytes ended
+saw_memory c s (Some r) bytes ended f x = saw_some c s r bytes ended f x
+saw_memory c s None bytes ended f x = tt
+
+pub saw_turned : (c : Command) (s now : Status) (t : Option Record) (old new : Option (List ℕ)) (ended : Type 0) → Turned s now → Fits s t → SawInput c s t old new ended → SawInput c now t old new ended
+saw_turned c s now t old new ended (inl e) f x = (x.0, x.1, subst (λ z. Saw c z t x.0 ended) (sym e) x.2)
+saw_turned c s now t old new ended (inr (inl h)) f x = (x.0, x.1, subst (λ z. Saw c z t x.0 ended) (sym h.1) (saw_report c s t x.0 ended h.0 x.2))
+saw_turned c s now t old new ended (inr (inr e)) f x = (x.0, x.1, subst (λ z. Saw c z t x.0 ended) (sym e) (saw_memory c s t x.0 ended f x.2))
+
+-- ---- the code
+
+ok_is : {X : Type 0} (q : List Text) (f : List X) → status_by q f ≡ Ok → (q ≡ []) × (f ≡ [])
+ok_is [] [] e = (refl, refl)
+ok_is [] (x ∷ f) e = absurd (cc)
+ok_is (u ∷ q) f e = absurd (cc)
+
+partial_is : {X : Type 0} (q : List Text) (f : List X) → status_by q f ≡ Partial → (q ≡ []) × (f ≢ [])
+partial_is [] [] e = absurd (cc)
+partial_is [] (x ∷ f) e = (refl, λ z. cc)
+partial_is (u ∷ q) f e = absurd (cc)
+
+limit_is : {X : Type 0} (q : List Text) (f : List X) → status_by q f ≡ Limit → q ≢ []
+limit_is [] [] e = absurd (cc)
+limit_is [] (x ∷ f) e = absurd (cc)
+limit_is (u ∷ q) f e = λ z. cc
+
+at_limit : (r : Record) (limit : ℕ) → HasEnded r limit → r.queued ≢ [] → length r.entries ≡ limit
+at_limit r limit (inl none) n = absurd (n none)
+at_limit r limit (inr full) n = full
+
+coded : (limit : ℕ) (s : Status) (r : Record) → Fits s (Some r) → (HasEnd s → HasEnded r limit) → IsCoded limit s r
+coded limit Ok r f h = ok_is r.queued (failures r.entries) f
+coded limit Partial r f h = partial_is r.queued (failures r.entries) f
+coded limit Limit r f h = let n = limit_is r.queued (failures r.entries) f in (n, at_limit r limit (h tt) n)
+coded limit (Site at) r f h = tt
+coded limit Input r f h = tt
+coded limit Output r f h = tt
+coded limit Memory r f h = tt
+coded limit Report r f h = tt
+coded limit NotBuilt r f h = tt
+
+coded_some : (c : Command) (s now : Status) (r : Record) → Turned s now → Fits s (Some r) → Traversed c s (Some r) → IsCoded c.limit now r
+coded_some c s now r (inl e) f x = subst (λ z. IsCoded c.limit z r) (sym e) (coded c.limit s r f x.2)
+coded_some c s now r (inr (inl h)) f x = subst (λ z. IsCoded c.limit z r) (sym h.1) tt
+coded_some c s now r (inr (inr e)) f x = subst (λ z. IsCoded c.limit z r) (sym e) tt
+
+pub coded_turned : (c : Command) (s now : Status) (t : Option Record) → Turned s now → Fits s t → Traversed c s t → IfSome t (IsCoded c.limit now)
+coded_turned c s now (Some r) turned f x = coded_some c s now r turned f x
+coded_turned c s now None turned f x = tt
+
+-- ---- causes
+
+-- a status that is no end and no want of memory was there before the report
+pub turned_input : (s now : Status) → Turned s now → now ≡ Input → s ≡ Input
+turned_input s now (inl e) i = sym e ∙ i
+turned_input s now (inr (inl h)) i = let z = sym h.1 ∙ i in absurd (cc)
+turned_input s now (inr (inr e)) i = let z = sym e ∙ i in absurd (cc)
+
+pub turned_output : (s now : Status) → Turned s now → now ≡ Output → s ≡ Output
+turned_output s now (inl e) i = sym e ∙ i
+turned_output s now (inr (inl h)) i = let z = sym h.1 ∙ i in absurd (cc)
+turned_output s now (inr (inr e)) i = let z = sym e ∙ i in absurd (cc)
+
+pub turned_end : (s now : Status) → Turned s now → now ≡ Ok → s ≡ Ok
+turned_end s now (inl e) i = sym e ∙ i
+turned_end s now (inr (inl h)) i = let z = sym h.1 ∙ i in absurd (cc)
+turned_end s now (inr (inr e)) i = let z = sym e ∙ i in absurd (cc)
+
+pub turned_unbuilt : (s now : Status) → Turned s now → (s ≡ NotBuilt) ⊎ (s ≡ Memory) → (now ≡ NotBuilt) ⊎ (now ≡ Memory)
+turned_unbuilt s now (inl e) (inl b) = inl (e ∙ b)
+turned_unbuilt s now (inl e) (inr m) = inr (e ∙ m)
+turned_unbuilt s now (inr (inl h)) (inl b) = absurd (subst HasEnd b h.0)
+turned_unbuilt s now (inr (inl h)) (inr m) = absurd (subst HasEnd m h.0)
+turned_unbuilt s now (inr (inr e)) u = inr e
