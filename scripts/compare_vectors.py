@@ -9,6 +9,9 @@ import sys
 
 
 def shown(text):
+    """A field: plain where its characters are all printable ASCII, else in hexadecimal."""
+    if all("!" <= c <= "~" for c in text):
+        return "=" + text
     return "x" + text.encode("utf-8").hex()
 
 
@@ -43,8 +46,8 @@ def site_case(v):
 ESCAPES = {"\\": "\\", '"': '"', "n": "\n", "r": "\r", "t": "\t"}
 
 
-def term_fields(text):
-    """The four fields of a term in its N-Triples form."""
+def term_parts(text):
+    """A term in its N-Triples form: its kind, its text, the number of a blank node or a literal's datatype, its tag."""
     if text.startswith("<"):
         fields = ["iri", text[1:-1], "", ""]
     elif text.startswith("_:b"):
@@ -66,7 +69,11 @@ def term_fields(text):
             fields = ["literal", lexical, rest[3:-1], ""]
         else:
             fields = ["literal", lexical, "http://www.w3.org/2001/XMLSchema#string", ""]
-    return " ".join(shown(field) for field in fields)
+    return fields
+
+
+def term_fields(text):
+    return " ".join(shown(part) for part in term_parts(text))
 
 
 def terms_case(v):
@@ -100,14 +107,89 @@ def values_case(v):
     return "%s %s" % (term_fields(v["a"]), term_fields(v["b"])), "%s; %s; %s" % (pair, literal, sums)
 
 
-KINDS = {"link": link_case, "iri": iri_case, "site": site_case, "turtle_tokens": tokens_case, "terms": terms_case, "values": values_case}
+def term_words(text):
+    """The words that make a constant of a term in its N-Triples form."""
+    kind, lexical, more, tag = term_parts(text)
+    if kind == "iri":
+        return [shown(lexical), "iri"]
+    if kind == "blank":
+        return [shown(lexical), "blank:" + more]
+    if tag:
+        return [shown(lexical), shown(tag), "tagged"]
+    return [shown(lexical), shown(more), "literal"]
+
+
+COMPARISONS = {"=": "eq", "!=": "ne", "<": "lt", "<=": "le", ">": "gt", ">=": "ge"}
+CALLS = {"isiri": "isIRI", "isblank": "isBlank", "isliteral": "isLiteral"}
+SIGNS = {"+": "plus", "-": "minus"}
+
+
+def expression_words(e, write_term):
+    """The words of an expression: operands before what takes them."""
+    def all_words(parts):
+        return [word for part in parts for word in expression_words(part, write_term)]
+    kind = e[0]
+    if kind == "const":
+        return term_words(write_term(e[1]))
+    if kind in ("var", "bound"):
+        return ["%s:%d" % (kind, e[1])]
+    if kind in ("or", "and"):
+        return all_words(e[1]) + ["%s:%d" % (kind, len(e[1]))]
+    if kind == "sum":
+        return all_words([e[1]] + [x for _, x in e[2]]) + ["sum:" + "".join(sign for sign, _ in e[2])]
+    if kind == "cmp":
+        return all_words(e[2:]) + [COMPARISONS[e[1]]]
+    if kind == "same":
+        return all_words(e[1:]) + ["sameTerm"]
+    if kind == "signed":
+        return all_words(e[2:]) + [SIGNS[e[1]]]
+    if kind == "call":
+        return all_words(e[2:]) + [CALLS.get(e[1], e[1])]
+    return all_words(e[1:]) + ["not"]
+
+
+def expressions_case(v):
+    """An expression over two terms; the oracle reads it, and says what it comes to."""
+    from ltq_oracle import sparql, terms, values
+    query = sparql.read_query("SELECT ?x ?y ?u { FILTER (%s) }" % v["expr"])
+    expression = query.body[1]
+    x, y = (named_term(v[name], terms) for name in ("x", "y"))
+    row = (x, y) + (None,) * (len(query.names) - 2)
+    truth_text = {True: "true", False: "false", None: "error"}[values.truth(expression, row)]
+    words = term_words(v["x"]) + ["bind"] + term_words(v["y"]) + ["bind"] + expression_words(expression, terms.write_term)
+    return " ".join(words), "%s %s" % ("error" if v["value"] is None else shown(v["value"]), truth_text)
+
+
+def named_term(text, terms):
+    kind, lexical, more, tag = term_parts(text)
+    if kind == "iri":
+        return terms.iri(lexical)
+    if kind == "blank":
+        return terms.blank(lexical, int(more))
+    return terms.literal(lexical, more, tag or None)
+
+
+KINDS = {"link": link_case, "iri": iri_case, "site": site_case, "turtle_tokens": tokens_case, "terms": terms_case, "values": values_case,
+         "expressions": expressions_case}
+
+# A kind whose cases the oracle gives with those of another kind.
+SOURCES = {"expressions": "values"}
+
+
+def cases_of(kind, seed, count):
+    if kind == "algebra":
+        from algebra_vectors import cases
+        return cases(int(seed), int(count))
+    made = subprocess.run([sys.executable, "unit_vectors.py", "--kind", SOURCES.get(kind, kind), "--seed", seed, "--count", count],
+                          cwd=os.environ["LTQ_ORACLE"], stdout=subprocess.PIPE, check=True)
+    return [KINDS[kind](json.loads(line)) for line in made.stdout.decode("utf-8").splitlines()]
 
 
 def main():
     program, kind, seed, count = sys.argv[1:5]
-    made = subprocess.run([sys.executable, "unit_vectors.py", "--kind", kind, "--seed", seed, "--count", count],
-                          cwd=os.environ["LTQ_ORACLE"], stdout=subprocess.PIPE, check=True)
-    cases = [KINDS[kind](json.loads(line)) for line in made.stdout.decode("utf-8").splitlines()]
+    sys.path.insert(0, os.environ["LTQ_ORACLE"])
+    sys.setrecursionlimit(20000)
+    cases = cases_of(kind, seed, count)
     ran = subprocess.run([program, kind], input="".join(c[0] + "\n" for c in cases).encode("utf-8"), stdout=subprocess.PIPE)
     answers = ran.stdout.decode("utf-8").splitlines()
     if ran.returncode != 0 or len(answers) != len(cases):

@@ -4,6 +4,10 @@ use std::alloc::Global;
 
 /// The bytes of a field, or none where the piece is no field.
 pub fn bytes(alloc: Global, piece: &str) -> Result<Option<Vec<u8>>, Memory> {
+    if let Some(plain) = piece.strip_prefix('=') {
+        let plain = String::from_str(alloc, plain)?;
+        return Ok(Some(plain.into_bytes()));
+    }
     let Some(digits) = piece.strip_prefix('x') else {
         return Ok(None);
     };
@@ -38,8 +42,12 @@ pub fn no_case(alloc: Global) -> Result<String, Memory> {
     Ok(String::from_str(alloc, "no case")?)
 }
 
-/// A text in hexadecimal, with `x` in front.
+/// A text as a field: plain, with `=` in front, where all of its characters are printable ASCII;
+/// else in hexadecimal, with `x` in front.
 pub fn shown(alloc: Global, text: &str) -> Result<String, Memory> {
+    if text.bytes().all(|byte| byte.is_ascii_graphic()) {
+        return Ok(format!(in alloc; "={text}")?);
+    }
     let digits = hex::encode(alloc, text)?;
     Ok(format!(in alloc; "x{digits}")?)
 }

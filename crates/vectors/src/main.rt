@@ -1,10 +1,15 @@
 //! Prints the answer of a crate's call for each case on standard input, for comparisons with other implementations.
 //!
-//! The one word names the kind of the cases. A case is a line of fields parted by single spaces; a
-//! field is `x` and the field's bytes in hexadecimal. An answer is a line. `scripts/vectors` feeds it.
+//! The one word names the kind of the cases; with the word `mixed` each line begins with its kind and a space. A case is a
+//! line of fields parted by single spaces. A field is `=` and the text as it stands, where that has no space, or `x` and the
+//! bytes in hexadecimal. An answer is a line. A line that begins with `#` is a heading, and is answered by itself.
+//! `scripts/vectors` feeds single kinds; the stored run is a mixed one, with the tables of all crates.
 #![tactic(auto)]
 
+mod algebra;
+mod algebra_case;
 mod cases;
+mod expressions;
 mod iri;
 mod link;
 mod site;
@@ -17,15 +22,31 @@ use std::io::{BufRead, BufReader};
 use std::process::ExitCode;
 use std::{env, io};
 
-fn answer(alloc: Global, kind: &str, line: &str) -> Result<String, Memory> {
+fn answer_of_kind(alloc: Global, kind: &str, line: &str) -> Result<String, Memory> {
     match kind {
+        "algebra" => algebra::answer(alloc, line),
         "link" => link::answer(alloc, line),
         "iri" => iri::answer(alloc, line),
         "site" => site::answer(alloc, line),
         "terms" => terms::forms(alloc, line),
+        "forms" => terms::literal_forms(alloc, line),
         "values" => terms::values(alloc, line),
+        "expressions" => expressions::answer(alloc, line),
         "turtle_tokens" => tokens::answer(alloc, line),
         _ => Ok(String::from_str(alloc, "no kind")?),
+    }
+}
+
+fn answer(alloc: Global, kind: &str, line: &str) -> Result<String, Memory> {
+    if line.starts_with('#') {
+        return Ok(String::from_str(alloc, line)?);
+    }
+    if kind != "mixed" {
+        return answer_of_kind(alloc, kind, line);
+    }
+    match line.split_once(' ') {
+        Some((kind, line)) => answer_of_kind(alloc, kind, line),
+        None => cases::no_case(alloc),
     }
 }
 

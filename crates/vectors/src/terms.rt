@@ -94,19 +94,32 @@ fn number_of_term(term: &Term) -> Option<Number> {
     }
 }
 
+fn form_text(alloc: Global, datatype: &str, lexical: &str) -> Result<String, Memory> {
+    let formed = truth_text(Some(well_formed(lexical, datatype)));
+    let boolean = truth_text(boolean_of(lexical, datatype));
+    let number = number_text(alloc, number_of(lexical, datatype))?;
+    Ok(format!(in alloc; "{formed} {boolean} {number}")?)
+}
+
 fn literal_text(alloc: Global, term: &Term) -> Result<String, Memory> {
     match term {
         Term::Literal {
             datatype,
             lexical,
             ..
-        } => {
-            let formed = truth_text(Some(well_formed(lexical.as_str(), datatype.as_str())));
-            let boolean = truth_text(boolean_of(lexical.as_str(), datatype.as_str()));
-            let number = number_text(alloc, number_of(lexical.as_str(), datatype.as_str()))?;
-            Ok(format!(in alloc; "{formed} {boolean} {number}")?)
-        }
+        } => form_text(alloc, datatype.as_str(), lexical.as_str()),
         _ => Ok(String::from_str(alloc, "no literal")?),
+    }
+}
+
+/// Of a datatype and a lexical form whether it is valid, its truth value and its number.
+pub fn literal_forms(alloc: Global, line: &str) -> Result<String, Memory> {
+    let Some(fields) = texts(alloc, line)? else {
+        return no_case(alloc);
+    };
+    match fields.as_slice() {
+        [datatype, lexical] => form_text(alloc, datatype, lexical),
+        _ => no_case(alloc),
     }
 }
 

@@ -1,0 +1,285 @@
+use crate::cases::{bytes, no_case, shown};
+use expr_eval::{CompareOp, Env, Evaluated, Expr, Function, Sign, evaluate, evaluate_truth};
+use items_core::{Boxed, Items};
+use rdf_terms::{Memory, Term, TextBuf, write_term};
+use std::alloc::Global;
+
+const LANG_STRING: &str = "http://www.w3.org/1999/02/22-rdf-syntax-ns#langString";
+
+/// Terms, of which variable n has the n-th.
+#[derive(Drop)]
+struct Bound {
+    terms: Vec<Term>,
+}
+
+impl Env for Bound {
+    ghost use Rattle.std.specs.Prelude.{slice_get};
+
+    ghost bindings = { λ bound var. slice_get bound.terms.items var };
+
+    fn get(&self, var: u16) -> Option<&Term> {
+        self.terms.get(usize::from(var))
+    }
+}
+
+/// What the words of a case have made so far: each word takes its operands from the ends of these lists.
+#[derive(Drop)]
+struct Stacks {
+    texts: Vec<TextBuf>,
+    exprs: Vec<Expr>,
+    bound: Bound,
+}
+
+type Made = Result<Option<Expr>, Memory>;
+
+impl Stacks {
+    fn new(alloc: Global) -> Stacks {
+        Stacks {
+            texts: Vec::new(alloc),
+            exprs: Vec::new(alloc),
+            bound: Bound {
+                terms: Vec::new(alloc),
+            },
+        }
+    }
+
+    fn iri(&mut self) -> Option<Term> {
+        Some(Term::Iri(self.texts.pop()?))
+    }
+
+    fn blank(&mut self, number: &str) -> Option<Term> {
+        let n = number.parse::<u64>().ok()?;
+        let doc = self.texts.pop()?;
+        Some(Term::Blank { doc, n })
+    }
+
+    fn literal(&mut self) -> Option<Term> {
+        let datatype = self.texts.pop()?;
+        let lexical = self.texts.pop()?;
+        Some(Term::literal(lexical, datatype, None))
+    }
+
+    fn typed(&mut self, alloc: Global, name: &str) -> Result<Option<Term>, Memory> {
+        let datatype = format!(in alloc; "http://www.w3.org/2001/XMLSchema#{name}")?;
+        self.texts.push(TextBuf::from_string(datatype)?)?;
+        Ok(self.literal())
+    }
+
+    fn tagged(&mut self, alloc: Global) -> Result<Option<Term>, Memory> {
+        let (Some(tag), Some(lexical)) = (self.texts.pop(), self.texts.pop()) else {
+            return Ok(None);
+        };
+        let datatype = TextBuf::from_str(alloc, LANG_STRING)?;
+        Ok(Some(Term::literal(lexical, datatype, Some(tag))))
+    }
+
+    fn boxed(&mut self, alloc: Global) -> Result<Option<Boxed<Expr>>, Memory> {
+        match self.exprs.pop() {
+            Some(expr) => Ok(Some(Boxed::new(alloc, expr)?)),
+            None => Ok(None),
+        }
+    }
+
+    fn pair(&mut self, alloc: Global) -> Result<Option<(Boxed<Expr>, Boxed<Expr>)>, Memory> {
+        let right = self.boxed(alloc)?;
+        let left = self.boxed(alloc)?;
+        Ok(left.zip(right))
+    }
+
+    fn compare(&mut self, alloc: Global, op: CompareOp) -> Made {
+        match self.pair(alloc)? {
+            Some((left, right)) => Ok(Some(Expr::Compare { op, left, right })),
+            None => Ok(None),
+        }
+    }
+
+    fn same_term(&mut self, alloc: Global) -> Made {
+        match self.pair(alloc)? {
+            Some((left, right)) => Ok(Some(Expr::SameTerm { left, right })),
+            None => Ok(None),
+        }
+    }
+
+    fn not(&mut self, alloc: Global) -> Made {
+        match self.boxed(alloc)? {
+            Some(of) => Ok(Some(Expr::Not(of))),
+            None => Ok(None),
+        }
+    }
+
+    fn call(&mut self, alloc: Global, function: Function) -> Made {
+        match self.boxed(alloc)? {
+            Some(of) => Ok(Some(Expr::Call { function, of })),
+            None => Ok(None),
+        }
+    }
+
+    fn signed(&mut self, alloc: Global, sign: Sign) -> Made {
+        match self.boxed(alloc)? {
+            Some(of) => Ok(Some(Expr::Signed { sign, of })),
+            None => Ok(None),
+        }
+    }
+
+    /// The last so many expressions, in their order.
+    fn last(&mut self, count: usize) -> Result<Option<Items<Expr>>, Memory> {
+        let Some(at) = self.exprs.len().checked_sub(count) else {
+            return Ok(None);
+        };
+        let last = self.exprs.split_off(at)?;
+        Ok(Some(Items::from_vec(last)))
+    }
+
+    fn any(&mut self, count: &str) -> Made {
+        let Ok(count) = count.parse::<usize>() else {
+            return Ok(None);
+        };
+        match self.last(count)? {
+            Some(parts) => Ok(Some(Expr::Or(parts))),
+            None => Ok(None),
+        }
+    }
+
+    fn all(&mut self, count: &str) -> Made {
+        let Ok(count) = count.parse::<usize>() else {
+            return Ok(None);
+        };
+        match self.last(count)? {
+            Some(parts) => Ok(Some(Expr::And(parts))),
+            None => Ok(None),
+        }
+    }
+
+    fn sum(&mut self, alloc: Global, signs: &str) -> Made {
+        let Some(at) = self.exprs.len().checked_sub(signs.len()) else {
+            return Ok(None);
+        };
+        let operands = self.exprs.split_off(at)?;
+        let Some(first) = self.boxed(alloc)? else {
+            return Ok(None);
+        };
+        let mut rest = Items::new(alloc);
+        for (sign, operand) in signs.bytes().zip(operands) {
+            let sign = if sign == b'-' {
+                Sign::Minus
+            } else {
+                Sign::Plus
+            };
+            rest.push((sign, operand))?;
+        }
+        Ok(Some(Expr::Sum { first, rest }))
+    }
+
+    fn named(&mut self, alloc: Global, word: &str) -> Made {
+        match word {
+            "iri" => Ok(self.iri().map(Expr::Constant)),
+            "literal" => Ok(self.literal().map(Expr::Constant)),
+            "tagged" => Ok(self.tagged(alloc)?.map(Expr::Constant)),
+            "not" => self.not(alloc),
+            "eq" => self.compare(alloc, CompareOp::Equal),
+            "ne" => self.compare(alloc, CompareOp::NotEqual),
+            "lt" => self.compare(alloc, CompareOp::Less),
+            "le" => self.compare(alloc, CompareOp::LessEqual),
+            "gt" => self.compare(alloc, CompareOp::Greater),
+            "ge" => self.compare(alloc, CompareOp::GreaterEqual),
+            "plus" => self.signed(alloc, Sign::Plus),
+            "minus" => self.signed(alloc, Sign::Minus),
+            "str" => self.call(alloc, Function::Str),
+            "lang" => self.call(alloc, Function::Lang),
+            "datatype" => self.call(alloc, Function::Datatype),
+            "isIRI" => self.call(alloc, Function::IsIri),
+            "isBlank" => self.call(alloc, Function::IsBlank),
+            "isLiteral" => self.call(alloc, Function::IsLiteral),
+            "sameTerm" => self.same_term(alloc),
+            _ => Ok(None),
+        }
+    }
+
+    fn with_argument(&mut self, alloc: Global, word: &str, argument: &str) -> Made {
+        match word {
+            "var" => Ok(argument.parse::<u16>().ok().map(Expr::Var)),
+            "bound" => Ok(argument.parse::<u16>().ok().map(Expr::Bound)),
+            "blank" => Ok(self.blank(argument).map(Expr::Constant)),
+            "xsd" => Ok(self.typed(alloc, argument)?.map(Expr::Constant)),
+            "or" => self.any(argument),
+            "and" => self.all(argument),
+            "sum" => self.sum(alloc, argument),
+            _ => Ok(None),
+        }
+    }
+
+    /// Binds the next variable to the last expression, which is a constant.
+    fn bind(&mut self) -> Result<bool, Memory> {
+        match self.exprs.pop() {
+            Some(Expr::Constant(term)) => {
+                self.bound.terms.push(term)?;
+                Ok(true)
+            }
+            _ => Ok(false),
+        }
+    }
+
+    fn field(&mut self, field: Vec<u8>) -> Result<bool, Memory> {
+        match String::from_utf8(field) {
+            Ok(text) => {
+                self.texts.push(TextBuf::from_string(text)?)?;
+                Ok(true)
+            }
+            Err(_) => Ok(false),
+        }
+    }
+
+    fn take(&mut self, alloc: Global, word: &str) -> Result<bool, Memory> {
+        if word == "bind" {
+            return self.bind();
+        }
+        if let Some(field) = bytes(alloc, word)? {
+            return self.field(field);
+        }
+        let made = match word.split_once(':') {
+            Some((word, argument)) => self.with_argument(alloc, word, argument)?,
+            None => self.named(alloc, word)?,
+        };
+        match made {
+            Some(expr) => {
+                self.exprs.push(expr)?;
+                Ok(true)
+            }
+            None => Ok(false),
+        }
+    }
+}
+
+fn value_text(alloc: Global, value: &Evaluated) -> Result<String, Memory> {
+    match value {
+        Evaluated::Value(term) => shown(alloc, write_term(alloc, term)?.as_str()),
+        Evaluated::TypeError => Ok(String::from_str(alloc, "error")?),
+    }
+}
+
+fn evaluated_text(alloc: Global, expr: &Expr, bound: &Bound) -> Result<String, Memory> {
+    let value = evaluate(alloc, expr, bound)?;
+    let value = value_text(alloc, &value)?;
+    let truth = match evaluate_truth(alloc, expr, bound)? {
+        Some(true) => "true",
+        Some(false) => "false",
+        None => "error",
+    };
+    Ok(format!(in alloc; "{value} {truth}")?)
+}
+
+/// The value of an expression and its truth. A case has the expression's parts in the order of a stack: operands before
+/// what takes them. A field is a text; `iri`, `literal` (form and datatype), `xsd:NAME`, `tagged` and `blank:N` make
+/// constants of texts, and `bind` makes the last one the term of the next variable.
+pub fn answer(alloc: Global, line: &str) -> Result<String, Memory> {
+    let mut stacks = Stacks::new(alloc);
+    for word in line.split(' ') {
+        if !stacks.take(alloc, word)? {
+            return no_case(alloc);
+        }
+    }
+    match stacks.exprs.as_slice() {
+        [expr] => evaluated_text(alloc, expr, &stacks.bound),
+        _ => no_case(alloc),
+    }
+}
