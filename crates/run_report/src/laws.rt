@@ -1,0 +1,13 @@
+ghost use Rattle.std.specs.Prelude.{◌≡◌, ◌↔◌, List, [], map};
+ghost use Rattle.rdf_terms.specs.Lists.{IsIn};
+ghost use Rattle.reach_terms.specs.declared.record.Entry.{Entry};
+ghost use Rattle.reach_terms.specs.Reach.{Text};
+ghost use Rattle.reach_terms.specs.Record.{FailedLinks};
+ghost use Rattle.run_report.specs.Report.{failures, failed_link};
+
+/// A report has a line for each link of the record that was refused or couldn't be reached, and for
+/// no other; so it has none exactly where no link failed.
+pub fn failed_links_are_told()
+    ensures lines { (entries : List Entry) (u : Text) → FailedLinks entries u ↔ IsIn (map failed_link (failures entries)) u }
+    ensures none { (entries : List Entry) → (failures entries ≡ []) ↔ ((u : Text) → FailedLinks entries u → ⊥) }
+{}
