@@ -21,7 +21,7 @@ mark_of quotes.Double = classes.Quote
 mark_of quotes.Single = classes.Apostrophe
 
 -- a text that leads to a state
-abbrev path : State → List Class
+abbrev pub path : State → List Class
 path at.Start = []
 path at.FirstDot = classes.Dot ∷ []
 path at.MarkDone = classes.Square ∷ []
@@ -70,7 +70,7 @@ path (at.LongSlash q) = mark_of q ∷ mark_of q ∷ mark_of q ∷ classes.Backsl
 path at.QuotedDone = classes.Quote ∷ classes.Letter ∷ classes.Quote ∷ []
 path _ = []
 
-abbrev after_all : List Class → Rule → Rule
+abbrev pub after_all : List Class → Rule → Rule
 after_all [] r = r
 after_all (x ∷ xs) r = after_all xs (after x r)
 
@@ -91,13 +91,13 @@ long_number q r kinds.Quoted =
 long_number q r k = Never
 
 -- what a kind still wants in a state
-abbrev rest : State → TurtleKind → Rule
+abbrev pub rest : State → TurtleKind → Rule
 rest (at.IriNumber left n) k = iri_number (Number (suc left) is_iri_code n) k
 rest (at.LineNumber q left n) k = line_number q (Number (suc left) is_scalar n) k
 rest (at.LongNumber q left n) k = long_number q (Number (suc left) is_scalar n) k
 rest s k = after_all (path s) (rule_of k)
 
-abbrev rest_of : Option State → TurtleKind → Rule
+abbrev pub rest_of : Option State → TurtleKind → Rule
 rest_of None k = Never
 rest_of (Some s) k = rest s k
 
@@ -395,7 +395,7 @@ derives_End s (classes.Digit v) = refl
 derives_End s x = refl
 
 -- what a kind wants behind a character is what it wants in the state that the character leads to
-derives : (s : State) (x : Class) (k : TurtleKind) → after x (rest s k) ≡ rest_of (stepped s x) k
+pub derives : (s : State) (x : Class) (k : TurtleKind) → after x (rest s k) ≡ rest_of (stepped s x) k
 derives s x kinds.IriRef = derives_IriRef s x
 derives s x kinds.Name = derives_Name s x
 derives s x kinds.BlankLabel = derives_BlankLabel s x
@@ -411,7 +411,7 @@ derives s x kinds.End = derives_End s x
 
 -- ---- the automaton decides the rules
 
-abbrev is_kind : TurtleKind → Option TurtleKind → Bool
+abbrev pub is_kind : TurtleKind → Option TurtleKind → Bool
 is_kind k None = false
 is_kind kinds.IriRef (Some kinds.IriRef) = true
 is_kind kinds.Name (Some kinds.Name) = true
@@ -426,16 +426,16 @@ is_kind kinds.Mark (Some kinds.Mark) = true
 is_kind k (Some j) = false
 
 -- no token is Bad or End
-abbrev is_read : Option TurtleKind → Bool
+abbrev pub is_read : Option TurtleKind → Bool
 is_read (Some kinds.Bad) = false
 is_read (Some kinds.End) = false
 is_read _ = true
 
-all_read : (s : State) → is_read (kind_of s) ≡ true
+pub all_read : (s : State) → is_read (kind_of s) ≡ true
 all_read at.Start = refl
 all_read s = refl
 
-ends : (s : State) (k : TurtleKind) → may_end (rest s k) ≡ is_kind k (kind_of s)
+pub ends : (s : State) (k : TurtleKind) → may_end (rest s k) ≡ is_kind k (kind_of s)
 ends at.Start kinds.IriRef = refl
 ends (at.FirstQuote quotes.Double) kinds.IriRef = refl
 ends (at.SecondQuote quotes.Double) kinds.IriRef = refl
@@ -457,7 +457,7 @@ decided [] (Some s) k = ends s k
 decided (x ∷ xs) None k = decided xs None k
 decided (x ∷ xs) (Some s) k = ap (λ r. allows r xs) (derives s x k) ∙ decided xs (stepped s x) k
 
-kind_is : (k : TurtleKind) (o : Option TurtleKind) → is_kind k o ≡ true → o ≡ Some k
+pub kind_is : (k : TurtleKind) (o : Option TurtleKind) → is_kind k o ≡ true → o ≡ Some k
 kind_is k None e = absurd cc
 kind_is kinds.IriRef (Some kinds.IriRef) e = refl
 kind_is kinds.Name (Some kinds.Name) e = refl
@@ -471,7 +471,7 @@ kind_is kinds.Word (Some kinds.Word) e = refl
 kind_is kinds.Mark (Some kinds.Mark) e = refl
 kind_is _ _ e = absurd cc
 
-is_kind_self : (k : TurtleKind) → is_read (Some k) ≡ true → is_kind k (Some k) ≡ true
+pub is_kind_self : (k : TurtleKind) → is_read (Some k) ≡ true → is_kind k (Some k) ≡ true
 is_kind_self kinds.Bad e = absurd cc
 is_kind_self kinds.End e = absurd cc
 is_kind_self k e = refl

@@ -10,9 +10,11 @@ use Rattle.text_rules.specs.Terminals.{is_iri_code, is_scalar}
 use Rattle.text_rules.specs.Scan.{IsLost}
 use Rattle.text_rules.proofs.Longest.{kind_in}
 use Rattle.text_rules.proofs.Walls.{scan_step, scan_end, lost_stuck}
+use Rattle.turtle_lexer.specs.declared.dialect.Dialect.{Dialect}
+use Rattle.turtle_lexer.specs.declared.dialect.Dialect.TheVariants as dialects
 use Rattle.turtle_lexer.specs.declared.state.State.{State}
 use Rattle.turtle_lexer.specs.declared.state.State.TheVariants as at
-use Rattle.turtle_lexer.specs.State.{when, digit_step, stepped, kind_of, is_waiting, begin, caret_step, number_step, word_step, prefix_step, prefix_dot_step, first_local_step, local_step, label_step, tag_step, iri_step, line_step, long_step, quote_step, slash_step, escape_step}
+use Rattle.turtle_lexer.specs.State.{when, digit_step, stepped, stepped_in, kind_of, is_waiting, begin, caret_step, number_step, word_step, prefix_step, prefix_dot_step, first_local_step, local_step, label_step, tag_step, iri_step, line_step, long_step, quote_step, slash_step, escape_step}
 
 -- the state of an automaton that has only waited for a colon, where one in this state may still find one
 abbrev pub shade : State → Option State
@@ -97,20 +99,25 @@ unfolding begin caret_step number_step word_step prefix_step prefix_dot_step fir
 dot_alike classes.Colon t e = absurd cc
 dot_alike x t e = e
 
-dot_lost : (place : ℕ) (xs : List Symbol) → IsLost stepped kind_of at.Prefix place xs → IsLost stepped kind_of at.PrefixDot place xs
-dot_lost place [] lost = λ best. scan_end stepped kind_of at.PrefixDot place best
-dot_lost place (x ∷ xs) lost = by (stepped at.PrefixDot x.class) refl
-  where
-    by : (o : Option State) → stepped at.PrefixDot x.class ≡ o → IsLost stepped kind_of at.PrefixDot place (x ∷ xs)
-    by None e = lost_stuck stepped kind_of at.PrefixDot place x xs e
-    by (Some t) e = λ best. scan_step stepped kind_of at.PrefixDot (Some t) place best x xs e ∙ sym (scan_step stepped kind_of at.Prefix (Some t) place best x xs (dot_alike x.class t e)) ∙ lost best
+dot_alike_in : (d : Dialect) (x : Class) (t : State) → stepped_in d at.PrefixDot x ≡ Some t → stepped_in d at.Prefix x ≡ Some t
+dot_alike_in dialects.Turtle x t e = dot_alike x t e
+dot_alike_in dialects.NTriples x t e = dot_alike x t e
 
-pub is_dotted : (s a : State) (place : ℕ) (xs : List Symbol) → shade s ≡ Some a → IsLost stepped kind_of a place xs → IsLost stepped kind_of at.PrefixDot place xs
-is_dotted at.Start a place xs e lost = let f : a ≡ at.PrefixDot = cc in subst (λ (s : State). IsLost stepped kind_of s place xs) f lost
-is_dotted at.Word a place xs e lost = let f : a ≡ at.Prefix = cc in dot_lost place xs (subst (λ (s : State). IsLost stepped kind_of s place xs) f lost)
-is_dotted at.Prefix a place xs e lost = let f : a ≡ at.Prefix = cc in dot_lost place xs (subst (λ (s : State). IsLost stepped kind_of s place xs) f lost)
-is_dotted at.PrefixDot a place xs e lost = let f : a ≡ at.PrefixDot = cc in subst (λ (s : State). IsLost stepped kind_of s place xs) f lost
-is_dotted _ a place xs e lost = absurd cc
+module _ (d : Dialect) where
+  dot_lost : (place : ℕ) (xs : List Symbol) → IsLost (stepped_in d) kind_of at.Prefix place xs → IsLost (stepped_in d) kind_of at.PrefixDot place xs
+  dot_lost place [] lost = λ best. scan_end (stepped_in d) kind_of at.PrefixDot place best
+  dot_lost place (x ∷ xs) lost = by (stepped_in d at.PrefixDot x.class) refl
+    where
+      by : (o : Option State) → stepped_in d at.PrefixDot x.class ≡ o → IsLost (stepped_in d) kind_of at.PrefixDot place (x ∷ xs)
+      by None e = lost_stuck (stepped_in d) kind_of at.PrefixDot place x xs e
+      by (Some t) e = λ best. scan_step (stepped_in d) kind_of at.PrefixDot (Some t) place best x xs e ∙ sym (scan_step (stepped_in d) kind_of at.Prefix (Some t) place best x xs (dot_alike_in d x.class t e)) ∙ lost best
+
+  pub is_dotted : (s a : State) (place : ℕ) (xs : List Symbol) → shade s ≡ Some a → IsLost (stepped_in d) kind_of a place xs → IsLost (stepped_in d) kind_of at.PrefixDot place xs
+  is_dotted at.Start a place xs e lost = let f : a ≡ at.PrefixDot = cc in subst (λ (s : State). IsLost (stepped_in d) kind_of s place xs) f lost
+  is_dotted at.Word a place xs e lost = let f : a ≡ at.Prefix = cc in dot_lost place xs (subst (λ (s : State). IsLost (stepped_in d) kind_of s place xs) f lost)
+  is_dotted at.Prefix a place xs e lost = let f : a ≡ at.Prefix = cc in dot_lost place xs (subst (λ (s : State). IsLost (stepped_in d) kind_of s place xs) f lost)
+  is_dotted at.PrefixDot a place xs e lost = let f : a ≡ at.PrefixDot = cc in subst (λ (s : State). IsLost (stepped_in d) kind_of s place xs) f lost
+  is_dotted _ a place xs e lost = absurd cc
 
 -- a waiting state is its own shade
 pub waiting_shade : (s : State) → is_waiting s ≡ true → shade s ≡ Some s

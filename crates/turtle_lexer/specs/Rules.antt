@@ -1,10 +1,12 @@
--- The rules for the tokens of Turtle, after the terminals of RDF 1.1 Turtle, section 6.5.
+-- The rules for the tokens of Turtle, after the terminals of RDF 1.1 Turtle, section 6.5, and of N-Triples.
 use Rattle.std.specs.Prelude.{Bool, true, false}
 use Rattle.text_rules.specs.declared.class.Class.{Class}
 use Rattle.text_rules.specs.declared.class.Class.TheVariants as classes
-use Rattle.text_rules.specs.Groups.{is_sign, is_caret}
+use Rattle.text_rules.specs.Groups.{is_sign, is_caret, is_underscore, is_colon, is_local_first, is_local}
 use Rattle.text_rules.specs.Rules.{Rule, Never, One, Then, Either, maybe}
-use Rattle.text_rules.specs.Terminals.{iri_ref, name, blank_label, language_tag, quoted, integer, decimal, double, word}
+use Rattle.text_rules.specs.Terminals.{with_dots, iri_ref, name, blank_label, language_tag, quoted, integer, decimal, double, word}
+use Rattle.turtle_lexer.specs.declared.dialect.Dialect.{Dialect}
+use Rattle.turtle_lexer.specs.declared.dialect.Dialect.TheVariants as dialects
 use Rattle.turtle_lexer.specs.declared.kind.TurtleKind.{TurtleKind}
 use Rattle.turtle_lexer.specs.declared.kind.TurtleKind.TheVariants as kinds
 
@@ -19,7 +21,7 @@ is_mark _ = false
 abbrev pub signed : Rule → Rule
 signed r = Then (maybe (One is_sign)) r
 
--- what a token of each kind is
+-- what a token of each kind is in Turtle
 abbrev pub rule_of : TurtleKind → Rule
 rule_of kinds.IriRef = iri_ref
 rule_of kinds.Name = name
@@ -33,3 +35,17 @@ rule_of kinds.Word = word
 rule_of kinds.Mark = Either (One is_mark) (Then (One is_caret) (One is_caret))
 rule_of kinds.Bad = Never
 rule_of kinds.End = Never
+
+-- BLANK_NODE_LABEL of RDF 1.1 N-Triples, section 7: there PN_CHARS_U, and so PN_CHARS, has the colon
+abbrev pub wide_label : Rule
+wide_label = Then (One is_underscore) (Then (One is_colon) (Then (One is_local_first) (with_dots is_local)))
+
+-- what a token of each kind is in N-Triples: the marks and words that only Turtle has are tokens too
+abbrev pub ntriples_rule_of : TurtleKind → Rule
+ntriples_rule_of kinds.BlankLabel = wide_label
+ntriples_rule_of k = rule_of k
+
+-- what a token of each kind is in a language
+abbrev pub rule_in : Dialect → TurtleKind → Rule
+rule_in dialects.Turtle = rule_of
+rule_in dialects.NTriples = ntriples_rule_of

@@ -9,6 +9,8 @@ use Rattle.text_rules.specs.Utf8.{Symbol}
 use Rattle.text_rules.specs.Rules.{with_digit}
 use Rattle.text_rules.specs.Scan.{IsWall}
 use Rattle.text_rules.specs.Terminals.{is_iri_code, is_scalar}
+use Rattle.turtle_lexer.specs.declared.dialect.Dialect.{Dialect}
+use Rattle.turtle_lexer.specs.declared.dialect.Dialect.TheVariants as dialects
 use Rattle.turtle_lexer.specs.declared.kind.TurtleKind.{TurtleKind}
 use Rattle.turtle_lexer.specs.declared.kind.TurtleKind.TheVariants as kinds
 use Rattle.turtle_lexer.specs.declared.state.State.{State}
@@ -180,7 +182,7 @@ unfoldable pub caret_step : Class → Option State
 caret_step classes.Caret = Some at.MarkDone
 caret_step _ = None
 
--- what one more character makes of a token that has been begun
+-- what one more character makes of a token of Turtle that has been begun
 abbrev pub stepped : State → Class → Option State
 stepped at.Start x = begin x
 stepped at.FirstCaret x = caret_step x
@@ -230,6 +232,18 @@ stepped (at.LongThree quote) x = quote_step (at.LongFour quote) quote x
 stepped (at.LongFour quote) x = quote_step at.QuotedDone quote x
 stepped _ x = None
 
+-- the same in N-Triples, where a colon goes on with a label
+abbrev pub ntriples_stepped : State → Class → Option State
+ntriples_stepped at.LabelColon classes.Colon = Some at.Label
+ntriples_stepped at.Label classes.Colon = Some at.Label
+ntriples_stepped at.LabelDot classes.Colon = Some at.Label
+ntriples_stepped s x = stepped s x
+
+-- the same in a language
+abbrev pub stepped_in : Dialect → State → Class → Option State
+stepped_in dialects.Turtle = stepped
+stepped_in dialects.NTriples = ntriples_stepped
+
 -- the kind of the token that ends here
 abbrev pub kind_of : State → Option TurtleKind
 kind_of at.FirstDot = Some kinds.Mark
@@ -257,5 +271,5 @@ is_waiting at.PrefixDot = true
 is_waiting _ = false
 
 -- before the wall no colon comes that makes a name of a prefix which a dot has followed
-abbrev pub IsNameless : ℕ → ℕ → List Symbol → Type 0
-IsNameless wall place xs = IsWall stepped kind_of at.PrefixDot wall place xs
+abbrev pub IsNameless : Dialect → ℕ → ℕ → List Symbol → Type 0
+IsNameless d wall place xs = IsWall (stepped_in d) kind_of at.PrefixDot wall place xs

@@ -1,15 +1,17 @@
--- The token list of a Turtle text.
+-- The token list of a text of Turtle or of N-Triples.
 use Rattle.std.specs.Prelude.{◌≡◌, ℕ, ◌<◌, ◌≤◌, List, [], ◌∷◌, ◌++◌, All, drop, slice_range, true, false, Bool, nat_eq, if◌then◌else◌}
 use Rattle.std.specs.List.{starts_with}
 use Rattle.std.specs.Str.{IsUtf8}
 use Rattle.text_rules.specs.Utf8.{Symbol, symbols_of}
 use Rattle.text_rules.specs.Tokens.{Lexes}
+use Rattle.turtle_lexer.specs.declared.dialect.Dialect.{Dialect}
+use Rattle.turtle_lexer.specs.declared.dialect.Dialect.TheVariants as dialects
 use Rattle.turtle_lexer.specs.declared.kind.TurtleKind.{TurtleKind}
 use Rattle.turtle_lexer.specs.declared.kind.TurtleKind.TheVariants as kinds
 use Rattle.turtle_lexer.specs.declared.token.Token.{Token}
 use Rattle.turtle_lexer.specs.declared.lexing.Next.{Next}
 use Rattle.turtle_lexer.specs.declared.lexing.Next.TheVariants as nexts
-use Rattle.turtle_lexer.specs.Rules.{rule_of}
+use Rattle.turtle_lexer.specs.Rules.{rule_in}
 use Rattle.turtle_lexer.specs.State.{IsNameless}
 
 -- a token of its kind and its two ends
@@ -17,8 +19,8 @@ abbrev pub token_of : TurtleKind → ℕ → ℕ → Token
 token_of kind from to = record { kind = kind; from = from; to = to }
 
 -- the characters from a place on are these tokens
-abbrev pub LexesTurtle : Bool → ℕ → List Symbol → List Token → Type 0
-LexesTurtle comment at xs ts = Lexes rule_of token_of kinds.Bad kinds.End comment at xs ts
+abbrev pub LexesIn : Dialect → Bool → ℕ → List Symbol → List Token → Type 0
+LexesIn d comment at xs ts = Lexes (rule_in d) token_of kinds.Bad kinds.End comment at xs ts
 
 -- the bytes of the byte order mark, U+FEFF
 abbrev pub byte_order_mark : List ℕ
@@ -28,9 +30,15 @@ byte_order_mark = 0xef ∷ 0xbb ∷ 0xbf ∷ []
 abbrev pub skipped : List ℕ → ℕ
 skipped bytes = if starts_with nat_eq bytes byte_order_mark then 3 else 0
 
--- the text has these tokens
+-- the text has these tokens in a language
+abbrev pub TokensIn : Dialect → List ℕ → List Token → Type 0
+TokensIn d bytes ts = LexesIn d false (skipped bytes) (symbols_of (drop (skipped bytes) bytes)) ts
+
 abbrev pub TurtleTokens : List ℕ → List Token → Type 0
-TurtleTokens bytes ts = LexesTurtle false (skipped bytes) (symbols_of (drop (skipped bytes) bytes)) ts
+TurtleTokens bytes ts = TokensIn dialects.Turtle bytes ts
+
+abbrev pub NTriplesTokens : List ℕ → List Token → Type 0
+NTriplesTokens bytes ts = TokensIn dialects.NTriples bytes ts
 
 -- the token's bytes are bytes of a text of this length
 abbrev pub HasSpan : ℕ → Token → Type 0
@@ -53,9 +61,9 @@ IsEnded ts = (front : List Token) × (t : Token) × (ts ≡ front ++ t ∷ []) �
 -- ---- one token after the other
 
 -- what stands at a place, with the tokens from its end on, is the tokens from the place on
-abbrev pub IsNext : List ℕ → ℕ → Next → Type 0
-IsNext bytes at (nexts.Token t) = (ts : List Token) → LexesTurtle false t.to (symbols_of (drop t.to bytes)) ts → LexesTurtle false at (symbols_of (drop at bytes)) (t ∷ ts)
-IsNext bytes at (nexts.Last t) = LexesTurtle false at (symbols_of (drop at bytes)) (t ∷ [])
+abbrev pub IsNext : Dialect → List ℕ → ℕ → Next → Type 0
+IsNext d bytes at (nexts.Token t) = (ts : List Token) → LexesIn d false t.to (symbols_of (drop t.to bytes)) ts → LexesIn d false at (symbols_of (drop at bytes)) (t ∷ ts)
+IsNext d bytes at (nexts.Last t) = LexesIn d false at (symbols_of (drop at bytes)) (t ∷ [])
 
 -- it lies in the text; and behind one that others follow the text goes on further on
 abbrev pub IsWithin : ℕ → ℕ → Next → Type 0
@@ -73,6 +81,6 @@ HasPlain bytes (nexts.Token t) = IsPlain bytes t
 HasPlain bytes (nexts.Last t) = IsPlain bytes t
 
 -- no name's colon comes behind it up to the wall
-abbrev pub IsNamelessBehind : ℕ → List ℕ → Next → Type 0
-IsNamelessBehind wall bytes (nexts.Token t) = IsNameless wall t.to (symbols_of (drop t.to bytes))
-IsNamelessBehind wall bytes (nexts.Last t) = Unit {0}
+abbrev pub IsNamelessBehind : Dialect → ℕ → List ℕ → Next → Type 0
+IsNamelessBehind d wall bytes (nexts.Token t) = IsNameless d wall t.to (symbols_of (drop t.to bytes))
+IsNamelessBehind d wall bytes (nexts.Last t) = Unit {0}

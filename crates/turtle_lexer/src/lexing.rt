@@ -5,6 +5,7 @@ ghost use Rattle.text_rules.specs.Utf8.{symbols_of};
 ghost use Rattle.turtle_lexer.specs.State.{IsNameless};
 ghost use Rattle.turtle_lexer.specs.Tokens as spec;
 
+use crate::dialect::Dialect;
 use crate::kind::TurtleKind;
 use crate::scan::longest;
 use crate::token::Token;
@@ -33,19 +34,19 @@ fn last(kind: TurtleKind, at: usize) -> Next
 }
 
 // The token that follows a place, and the new wall.
-fn read(bytes: &[u8], from: usize, wall: usize) -> (Next, usize)
+fn read(dialect: Dialect, bytes: &[u8], from: usize, wall: usize) -> (Next, usize)
     requires place { from ≤ length bytes.now }
-    requires nameless { IsNameless wall from (symbols_of (drop from bytes.now)) }
-    ensures next { spec.IsNext bytes.now from result.0 }
+    requires nameless { IsNameless dialect wall from (symbols_of (drop from bytes.now)) }
+    ensures next { spec.IsNext dialect bytes.now from result.0 }
     ensures within { spec.IsWithin from (length bytes.now) result.0 }
     ensures placed { spec.IsPlaced result.0 }
     ensures plain { spec.HasPlain bytes.now result.0 }
-    ensures nameless { spec.IsNamelessBehind result.1 bytes.now result.0 }
+    ensures nameless { spec.IsNamelessBehind dialect result.1 bytes.now result.0 }
 {
     match gap_at(bytes, from) {
         Gap::End(at) => (last(TurtleKind::End, at), wall),
         Gap::Ill(at) => (last(TurtleKind::Bad, at), wall),
-        Gap::Token(at) => match longest(bytes, at, wall) {
+        Gap::Token(at) => match longest(dialect, bytes, at, wall) {
             (Some((kind, to)), wall) => (Next::Token(Token { kind, from: at, to }), wall),
             (None, wall) => (last(TurtleKind::Bad, at), wall),
         },
@@ -64,12 +65,8 @@ fn skipped(bytes: &[u8]) -> usize
     }
 }
 
-/// All tokens of a text, in order: the last is `End` at the text's length, or `Bad` at the first
-/// place where no token can be read. It takes time linear in the length, and one list of memory.
-pub fn lex_turtle(alloc: Global, bytes: &[u8]) -> Result<Vec<Token>, Memory>
-    ensures tokens { IfOk result (λ tokens. spec.TurtleTokens bytes.now tokens.items) }
-
-    // What follows from that, for those who read the tokens' bytes.
+fn lex(alloc: Global, dialect: Dialect, bytes: &[u8]) -> Result<Vec<Token>, Memory>
+    ensures tokens { IfOk result (λ tokens. spec.TokensIn dialect bytes.now tokens.items) }
     ensures spans { IfOk result (λ tokens. All (spec.HasSpan (length bytes.now)) tokens.items) }
     ensures plain { IfOk result (λ tokens. All (spec.IsPlain bytes.now) tokens.items) }
     ensures ended { IfOk result (λ tokens. spec.IsEnded tokens.items) }
@@ -78,7 +75,7 @@ pub fn lex_turtle(alloc: Global, bytes: &[u8]) -> Result<Vec<Token>, Memory>
     let mut at = skipped(bytes);
     let mut wall = at;
     loop {
-        let (next, next_wall) = read(bytes, at, wall);
+        let (next, next_wall) = read(dialect, bytes, at, wall);
         match next {
             Next::Token(token) => {
                 tokens.push(token)?;
@@ -91,4 +88,31 @@ pub fn lex_turtle(alloc: Global, bytes: &[u8]) -> Result<Vec<Token>, Memory>
             }
         }
     }
+}
+
+/// All tokens of a text of Turtle, in order: the last is `End` at the text's length, or `Bad` at the
+/// first place where no token can be read. It takes time linear in the length, and one list of
+/// memory.
+pub fn lex_turtle(alloc: Global, bytes: &[u8]) -> Result<Vec<Token>, Memory>
+    ensures tokens { IfOk result (λ tokens. spec.TurtleTokens bytes.now tokens.items) }
+
+    // What follows from that, for those who read the tokens' bytes.
+    ensures spans { IfOk result (λ tokens. All (spec.HasSpan (length bytes.now)) tokens.items) }
+    ensures plain { IfOk result (λ tokens. All (spec.IsPlain bytes.now) tokens.items) }
+    ensures ended { IfOk result (λ tokens. spec.IsEnded tokens.items) }
+{
+    lex(alloc, Dialect::Turtle, bytes)
+}
+
+/// The same of a text of N-Triples. A line end that ends a statement lies in the gap between two
+/// tokens.
+pub fn lex_ntriples(alloc: Global, bytes: &[u8]) -> Result<Vec<Token>, Memory>
+    ensures tokens { IfOk result (λ tokens. spec.NTriplesTokens bytes.now tokens.items) }
+
+    // What follows from that, for those who read the tokens' bytes.
+    ensures spans { IfOk result (λ tokens. All (spec.HasSpan (length bytes.now)) tokens.items) }
+    ensures plain { IfOk result (λ tokens. All (spec.IsPlain bytes.now) tokens.items) }
+    ensures ended { IfOk result (λ tokens. spec.IsEnded tokens.items) }
+{
+    lex(alloc, Dialect::NTriples, bytes)
 }

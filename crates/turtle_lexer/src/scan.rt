@@ -5,26 +5,32 @@ ghost use Rattle.text_rules.specs.Utf8.{symbols_of};
 ghost use Rattle.text_rules.specs.Scan.{scan};
 ghost use Rattle.turtle_lexer.specs.State as spec;
 
+use crate::dialect::Dialect;
 use crate::kind::TurtleKind;
-use crate::state::{State, is_waiting, kind_of, step};
+use crate::state::{State, is_waiting, kind_of, step_in};
 use text_rules::symbol_at;
 
 /// The kind of the longest token that begins at `from` and the place behind it, and the new wall.
 ///
 /// Up to the wall no colon comes that makes a name of a prefix, as an earlier scan has seen; so no
 /// byte is read again and again for a name that does not come.
-pub fn longest(bytes: &[u8], from: usize, wall: usize) -> (Option<(TurtleKind, usize)>, usize)
+pub fn longest(
+    dialect: Dialect,
+    bytes: &[u8],
+    from: usize,
+    wall: usize,
+) -> (Option<(TurtleKind, usize)>, usize)
     requires place { from ≤ length bytes.now }
-    requires nameless { spec.IsNameless wall from (symbols_of (drop from bytes.now)) }
+    requires nameless { spec.IsNameless dialect wall from (symbols_of (drop from bytes.now)) }
     ensures within { IfSome result.0 (λ x. (from < x.1) × (x.1 ≤ length bytes.now)) }
-    ensures found { result.0 ≡ scan spec.stepped spec.kind_of State.Start from None (symbols_of (drop from bytes.now)) }
-    ensures nameless { spec.IsNameless result.1 from (symbols_of (drop from bytes.now)) }
+    ensures found { result.0 ≡ scan (spec.stepped_in dialect) spec.kind_of State.Start from None (symbols_of (drop from bytes.now)) }
+    ensures nameless { spec.IsNameless dialect result.1 from (symbols_of (drop from bytes.now)) }
 {
     let mut state = State::Start;
     let mut at = from;
     let mut best = None;
     while let Some((class, width)) = symbol_at(&bytes[at..]) {
-        let Some(next) = step(state, class) else {
+        let Some(next) = step_in(dialect, state, class) else {
             return (best, wall_behind(state, at, wall));
         };
         state = next;

@@ -4,6 +4,7 @@ ghost use Rattle.std.specs.Prelude.{◌≡◌};
 ghost use Rattle.text_rules.specs.Groups as group;
 ghost use Rattle.turtle_lexer.specs.State as spec;
 
+use crate::dialect::Dialect;
 use crate::kind::TurtleKind;
 use text_rules::{Class, Quote, is_iri_code, is_scalar, with_digit};
 
@@ -288,9 +289,7 @@ fn escape(state: State, x: Class) -> Option<State>
     }
 }
 
-/// What one more character makes of a token that has been begun, or `None` where it can make
-/// nothing of it.
-pub fn step(state: State, x: Class) -> Option<State>
+fn step(state: State, x: Class) -> Option<State>
     ensures { result ≡ spec.stepped state x }
 {
     match state {
@@ -339,6 +338,29 @@ pub fn step(state: State, x: Class) -> Option<State>
         State::LongThree(quote) => one_more(State::LongFour(quote), quote, x),
         State::LongFour(quote) => one_more(State::QuotedDone, quote, x),
         State::MarkDone | State::IriDone | State::QuotedDone => None,
+    }
+}
+
+fn ntriples_step(state: State, x: Class) -> Option<State>
+    ensures { result ≡ spec.ntriples_stepped state x }
+{
+    match state {
+        State::LabelColon | State::Label | State::LabelDot => match x {
+            Class::Colon => Some(State::Label),
+            _ => step(state, x),
+        },
+        _ => step(state, x),
+    }
+}
+
+/// What one more character makes of a token that has been begun, or `None` where it can make
+/// nothing of it.
+pub fn step_in(dialect: Dialect, state: State, x: Class) -> Option<State>
+    ensures { result ≡ spec.stepped_in dialect state x }
+{
+    match dialect {
+        Dialect::Turtle => step(state, x),
+        Dialect::NTriples => ntriples_step(state, x),
     }
 }
 

@@ -1,4 +1,4 @@
-use crate::{TurtleKind, lex_turtle};
+use crate::{TurtleKind, lex_ntriples, lex_turtle};
 use std::test::Fail;
 
 #[test]
@@ -37,6 +37,23 @@ fn ends_in_bad_where_no_token_can_be_read(rt: HostRuntime) -> Result<(), Fail> {
         (Word, 9, 13),
         (Mark, 14, 16),
         (Bad, 17, 17),
+    ];
+    assert_eq!(rt; tokens.len(), want.len());
+    for (token, expected) in tokens.iter().zip(&want) {
+        assert_eq!(rt; (token.kind, token.from, token.to), *expected);
+    }
+    Ok(())
+}
+
+#[test]
+fn reads_colons_in_labels_of_ntriples(rt: HostRuntime) -> Result<(), Fail> {
+    use TurtleKind::*;
+    let tokens = lex_ntriples(rt.alloc(), b"_:a:b. _::.:")?;
+    let want = [
+        (BlankLabel, 0, 5),
+        (Mark, 5, 6),
+        (BlankLabel, 7, 12),
+        (End, 12, 12),
     ];
     assert_eq!(rt; tokens.len(), want.len());
     for (token, expected) in tokens.iter().zip(&want) {

@@ -1,7 +1,7 @@
 use Rattle.std.proofs.Common.{◌≡◌, length, false}
 use Rattle.text_rules.proofs.Reading.{all_more, list_more}
-use Rattle.turtle_lexer.specs.Tokens.{HasSpan, IsPlain, TurtleTokens, is_last}
-use Rattle.turtle_lexer.proofs.lexing.lex_turtle.Goals as goal
+use Rattle.turtle_lexer.specs.Tokens.{HasSpan, IsPlain, TokensIn, is_last}
+use Rattle.turtle_lexer.proofs.lexing.lex.Goals as goal
 
 pub loop-token-preserved : goal.loop-token-preserved
 loop-token-preserved c =
@@ -17,7 +17,7 @@ loop-token-preserved c =
       spans = all_more (HasSpan (length c.args.bytes.now)) c.loop-token.tokens.items _ c.in-Token.token items c.loop-token.invariant.spans within.1;
       plain = all_more (IsPlain c.args.bytes.now) c.loop-token.tokens.items _ c.in-Token.token items c.loop-token.invariant.plain plain;
       unended = all_more (λ t. is_last t.kind ≡ false) c.loop-token.tokens.items _ c.in-Token.token items c.loop-token.invariant.unended placed;
-      so_far = λ ts r. list_more (TurtleTokens c.args.bytes.now) c.loop-token.tokens.items _ ts c.in-Token.token items (c.loop-token.invariant.so_far _ (next ts r));
+      so_far = λ ts r. list_more (TokensIn c.args.dialect c.args.bytes.now) c.loop-token.tokens.items _ ts c.in-Token.token items (c.loop-token.invariant.so_far _ (next ts r));
     }
 
 pub returns-in-Last-clause-spans : goal.returns-in-Last-clause-spans

@@ -3,17 +3,17 @@ use Rattle.std.specs.Prelude.{All}
 use Rattle.text_rules.specs.Utf8.{symbols_of}
 use Rattle.turtle_lexer.specs.declared.token.Token.{Token}
 use Rattle.turtle_lexer.specs.State.{IsNameless}
-use Rattle.turtle_lexer.specs.Tokens.{HasSpan, IsPlain, LexesTurtle, TurtleTokens, is_last}
-use Rattle.turtle_lexer.proofs.lexing.lex_turtle.Given as goal
+use Rattle.turtle_lexer.specs.Tokens.{HasSpan, IsPlain, LexesIn, TokensIn, is_last}
+use Rattle.turtle_lexer.proofs.lexing.lex.Given as goal
 
 abbrev pub invariant-loop-token : goal.invariant-loop-token
 invariant-loop-token l = record {
   within : l.at ≤ length l.bytes;
-  nameless : IsNameless l.wall l.at (symbols_of (drop l.at l.bytes));
+  nameless : IsNameless l.dialect l.wall l.at (symbols_of (drop l.at l.bytes));
   spans : All (HasSpan (length l.bytes)) l.tokens.items;
   plain : All (IsPlain l.bytes) l.tokens.items;
   unended : All (λ t. is_last t.kind ≡ false) l.tokens.items;
-  so_far : (ts : List Token) → LexesTurtle false l.at (symbols_of (drop l.at l.bytes)) ts → TurtleTokens l.bytes (l.tokens.items ++ ts);
+  so_far : (ts : List Token) → LexesIn l.dialect false l.at (symbols_of (drop l.at l.bytes)) ts → TokensIn l.dialect l.bytes (l.tokens.items ++ ts);
 }
 
 abbrev pub decreases-loop-token : goal.decreases-loop-token
