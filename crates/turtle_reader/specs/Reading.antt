@@ -1,0 +1,43 @@
+-- What a Turtle text gives: its triples in order, or its first fault.
+use Rattle.std.specs.Prelude.{◌≡◌, ℕ, List, [], Result, Ok, Err}
+use Rattle.rdf_terms.specs.declared.triple.Triple.{Triple}
+use Rattle.grammar_engine.specs.Engine.{Done, Not, Reads}
+use Rattle.turtle_lexer.specs.declared.token.Token.{Token as Lexed}
+use Rattle.turtle_lexer.specs.Tokens.{TurtleTokens}
+use Rattle.turtle_scan.specs.declared.fault.Fault.{Fault}
+use Rattle.turtle_scan.specs.declared.fault.Fault.TheVariants.{Syntax, Deep}
+use Rattle.turtle_scan.specs.Scan.{Scanning, scanning}
+use Rattle.turtle_scan.specs.declared.fault.ScanError.{ScanError}
+use Rattle.turtle_scan.specs.declared.fault.ScanError.TheVariants as errors
+use Rattle.turtle_reader.specs.declared.fault.ReadFault.{ReadFault}
+use Rattle.turtle_reader.specs.declared.fault.ReadFault.TheVariants as faults
+use Rattle.turtle_reader.specs.Grammar.{E, TurtleDoc, turtle, body}
+
+-- the document that is read, or the fault
+abbrev pub answer_of : E (TurtleDoc []) → Result (List Triple) Fault
+answer_of (Done triples rest) = Ok triples
+answer_of (Not x) = Err x
+
+-- The tokens with what they stand for are read by the grammar as a document. Where they were cut at a token that nothing may
+-- take, its fault is what comes behind them: so a token that does not fit is found before it, and nothing behind it matters.
+abbrev pub ReadsScanned : List ℕ → Scanning → Result (List Triple) Fault → Type 0
+ReadsScanned doc s answer = (o : E (TurtleDoc [])) × Reads (turtle doc s.stop) (TurtleDoc []) (body doc (TurtleDoc [])) s.tokens o × (answer ≡ answer_of o)
+
+-- A text under the name of its document and its base at the beginning has this answer: it has tokens, which stand for
+-- something under the bases and prefixes in force, and the grammar reads these.
+abbrev pub IsTurtle : List ℕ → List ℕ → List ℕ → Result (List Triple) Fault → Type 0
+IsTurtle doc base bytes answer = (lexed : List Lexed) × TurtleTokens bytes lexed × ReadsScanned doc (scanning base bytes lexed) answer
+
+-- the fault that is reported; of memory nothing is said
+abbrev pub IsFault : ReadFault → (Fault → Type 0) → Type 0
+IsFault (faults.Syntax at) P = P (Syntax at)
+IsFault (faults.Deep at) P = P (Deep at)
+IsFault faults.Memory P = Unit {0}
+
+abbrev pub reported_fault : Fault → ReadFault
+reported_fault (Syntax at) = faults.Syntax at
+reported_fault (Deep at) = faults.Deep at
+
+abbrev pub reported : ScanError → ReadFault
+reported errors.Memory = faults.Memory
+reported (errors.Fault x) = reported_fault x

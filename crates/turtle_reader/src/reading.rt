@@ -1,0 +1,44 @@
+//! Reading a text.
+
+ghost use Rattle.std.specs.Prelude.{◌≡◌, Ok, Err, IfOk, IfErr};
+ghost use Rattle.turtle_reader.specs.Reading as spec;
+ghost use Rattle.turtle_reader.specs.Reading.{IsTurtle, IsFault};
+
+use crate::document::document;
+use crate::fault::ReadFault;
+use crate::setting::Setting;
+use rdf_terms::Triple;
+use std::alloc::Global;
+use turtle_lexer::lex_turtle;
+use turtle_scan::{Fault, ScanError, scan};
+
+fn reported(error: ScanError) -> ReadFault
+    ensures { result ≡ spec.reported error }
+{
+    match error {
+        ScanError::Memory => ReadFault::Memory,
+        ScanError::Fault(Fault::Syntax(at)) => ReadFault::Syntax { at },
+        ScanError::Fault(Fault::Deep(at)) => ReadFault::Deep { at },
+    }
+}
+
+/// The triples of a Turtle document in order, with `doc` as the name of its blank nodes and `base` as
+/// its base at the beginning; or the first fault in the text. It takes time and memory linear in the
+/// text.
+pub fn read_turtle(
+    alloc: Global,
+    doc: &str,
+    base: &str,
+    bytes: &[u8],
+) -> Result<Vec<Triple>, ReadFault>
+    ensures ok { IfOk result (λ triples. IsTurtle doc.now base.now bytes.now (Ok triples.items)) }
+    ensures fault { IfErr result (λ e. IsFault e (λ x. IsTurtle doc.now base.now bytes.now (Err x))) }
+{
+    let lexed = lex_turtle(alloc, bytes)?;
+    let scanned = scan(alloc, base, bytes, lexed.as_slice())?;
+    let setting = Setting::new(alloc, doc, scanned.stop)?;
+    match document(alloc, &setting, scanned.tokens.as_slice()) {
+        Ok((triples, _)) => Ok(triples),
+        Err(error) => Err(reported(error)),
+    }
+}
