@@ -24,7 +24,7 @@ use Rattle.reach_terms.specs.declared.record.Record.{Record}
 use Rattle.reach_terms.specs.Web.{heard_in}
 use Rattle.reach_terms.specs.Reach.{Text}
 use Rattle.reach_terms.specs.Record.{IsTraversed, IsFaithful, HasEnded, LooksUpReachable, Unreached, merged_graph}
-use Rattle.plain_documents.specs.Outcome.{outcome_of}
+use Rattle.doc_reader.specs.Outcome.{outcome_of}
 use Rattle.run_report.specs.Report.{failures}
 use Rattle.traverse_core.specs.declared.alone.Ran.{Ran}
 use Rattle.traverse_core.specs.declared.alone.Ran.TheVariants as ran
@@ -75,6 +75,10 @@ pub is_output : (x : Ran) (r : Record) → ran_status x r ≡ Output → x ≡ r
 is_output ran.Done r e = absurd (not_output r.queued (failures r.entries) e)
 is_output ran.Output r e = refl
 is_output ran.Memory r e = absurd (cc)
+
+-- a run that ended otherwise has another status
+pub no_output : (x : Ran) (r : Record) → ran_status x r ≢ Output → x ≢ ran.Output
+no_output x r n e = n (ap (λ y. ran_status y r) e)
 
 -- ---- what was written
 
@@ -130,8 +134,8 @@ never_none [] text e = absurd (cc)
 never_none (x ∷ site) text e = pick (bytes_eq x.0 text) x.1 (heard_in (map told_entry site) (Reply not_found) text) (never_none site text) e
 
 -- no link is unreachable
-reached : (run : Run) (site : List SiteEntry) (s : State) → IsOverSite run site → IsKept run s → (u : Text) → Unreached s.entries u → ⊥
-reached run site s o k u x =
+none_unreached : (run : Run) (site : List SiteEntry) (s : State) → IsOverSite run site → IsKept run s → (u : Text) → Unreached s.entries u → ⊥
+none_unreached run site s o k u x =
     let kept = k.entries (record { link = u; found = Unreachable x.0 x.1 }) x.2 in
     let never : NeverAnswers run.fetch.web kept.link = kept.may.sure x.0 x.1 (ap (λ f. f.sure) o.fetch) refl in
     never_none site kept.link.text (subst (λ f. NeverAnswers f.web kept.link) o.fetch never)
@@ -144,12 +148,12 @@ pub of_web : (run : Run) (site : List SiteEntry) (s : State) (r : Record) → r.
 of_web run site s r entries o k traversed faithful exactly =
     let out = outcome_of (web_of_site site) body_limit in
     let true_to : IsFaithful out r = subst (λ b. IsFaithful (outcome_of (web_of_site site) b) r) o.body (subst (λ f. IfSome f.web (λ web. IsFaithful (outcome_of web run.body) r)) o.fetch faithful) in
-    let none : (u : Text) → Unreached r.entries u → ⊥ = λ u x. reached run site s o k u (subst (λ es. Unreached es u) entries x) in
+    let none : (u : Text) → Unreached r.entries u → ⊥ = λ u x. none_unreached run site s o k u (subst (λ es. Unreached es u) entries x) in
     let all : r.queued ≡ [] → LooksUpReachable out r (seeds_of run) (rule_of run) = λ e. subst (λ b. LooksUpReachable (outcome_of (web_of_site site) b) r (seeds_of run) (rule_of run)) o.body
     (subst (λ f. IfSome f.web (λ web. LooksUpReachable (outcome_of web run.body) r (seeds_of run) (rule_of run))) o.fetch (exactly e)) in
     record {
       faithful = true_to;
-      reached = none;
+      none_unreached = none;
       exactly = all;
       within = λ e. not_beyond r out (rule_of run) (seeds_of run) run.limit traversed (all e);
       beyond = λ some full. is_beyond r out (rule_of run) (seeds_of run) run.limit traversed true_to none some full;

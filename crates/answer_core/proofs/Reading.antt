@@ -1,7 +1,6 @@
 -- From the site that was read to what is said of the bytes.
-use Rattle.std.proofs.Common.{ℕ, zero, suc, ◌≡◌, ◌⊎◌, ◌+◌, ◌≤◌, ◌<◌, Bool, List, [], ◌∷◌, get_or, Option, Some, None, true, false, inl, inr, refl, sym, ap, subst, ◌∙◌, arith, length}
-use Rattle.std.specs.Prelude.{◌&&◌, map, unwrap_or}
-use Rattle.std.specs.List.{list_all}
+use Rattle.std.proofs.Common.{ℕ, zero, suc, ◌≡◌, ◌⊎◌, ◌+◌, ◌≤◌, ◌<◌, List, [], ◌∷◌, Option, Some, None, true, inl, inr, refl, sym, ap, subst, ◌∙◌, arith, length}
+use Rattle.std.specs.Prelude.{map, unwrap_or}
 use Rattle.std.specs.Io.KnownBytes.{prepend_known}
 use Rattle.reach_criteria.specs.declared.criterion.Criterion.{Criterion}
 use Rattle.reach_terms.specs.declared.record.Record.{Record}
@@ -80,15 +79,6 @@ saw_nothing c s t old new E e f same =
     unread (Some xs) = refl
 
 -- ---- lists
-
-and_false : (b : Bool) → false ≡ (b && false)
-and_false true = refl
-and_false false = refl
-
-pub not_all : {X : Type 0} (p : X → Bool) (xs : List X) (i : ℕ) (x : X) → i < length xs → x ≡ get_or xs i x → p x ≡ false → false ≡ list_all p xs
-not_all p [] i x l is e = absurd (omega arith)
-not_all p (y ∷ xs) zero x l is e = ap (λ b. b && list_all p xs) (sym e ∙ ap p is)
-not_all p (y ∷ xs) (suc i) x l is e = and_false (p y) ∙ ap (λ b. p y && b) (not_all p xs i x (omega arith) is e)
 
 pub same_some : {X : Type 0} (x y : X) → Some x ≡ Some y → x ≡ y
 same_some x y e = ap (λ o. unwrap_or o x) e

@@ -5,7 +5,7 @@ use Rattle.reach_terms.specs.declared.record.Record.{Record}
 use Rattle.reach_terms.specs.Reach.{Text}
 use Rattle.reach_terms.specs.Record.{HasEnded}
 use Rattle.run_report.specs.Report.{failures}
-use Rattle.answer_core.specs.Codes.{HasEnd, IsCoded, Fits, status_by, ended_status}
+use Rattle.answer_core.specs.Codes.{HasEnd, IsReported, IsCalm, IsCoded, Fits, status_by, ended_status}
 use Rattle.answer_core.specs.declared.command.Command.{Command}
 use Rattle.answer_core.specs.Headline.{HasNoRecord, Traversed, Written}
 use Rattle.answer_core.specs.Input.{Saw, SawInput}
@@ -141,14 +141,30 @@ turned_output s now (inl e) i = sym e ∙ i
 turned_output s now (inr (inl h)) i = let z = sym h.1 ∙ i in absurd (cc)
 turned_output s now (inr (inr e)) i = let z = sym e ∙ i in absurd (cc)
 
-pub turned_end : (s now : Status) → Turned s now → now ≡ Ok → s ≡ Ok
-turned_end s now (inl e) i = sym e ∙ i
-turned_end s now (inr (inl h)) i = let z = sym h.1 ∙ i in absurd (cc)
-turned_end s now (inr (inr e)) i = let z = sym e ∙ i in absurd (cc)
-
 pub turned_unbuilt : (s now : Status) → Turned s now → (s ≡ NotBuilt) ⊎ (s ≡ Memory) → (now ≡ NotBuilt) ⊎ (now ≡ Memory)
 turned_unbuilt s now (inl e) (inl b) = inl (e ∙ b)
 turned_unbuilt s now (inl e) (inr m) = inr (e ∙ m)
 turned_unbuilt s now (inr (inl h)) (inl b) = absurd (subst HasEnd b h.0)
 turned_unbuilt s now (inr (inl h)) (inr m) = absurd (subst HasEnd m h.0)
 turned_unbuilt s now (inr (inr e)) u = inr e
+
+-- ---- counts that are as they were
+
+calm_same : (s : Status) (i o r : Type 0) → (s ≢ Input → s ≢ Memory → i) → (s ≢ Output → o) → (IsReported s → r) → IsCalm s i o r
+calm_same Ok i o r f g h = (f (λ e. absurd (cc)) (λ e. absurd (cc)), g (λ e. absurd (cc)), h tt)
+calm_same Partial i o r f g h = (f (λ e. absurd (cc)) (λ e. absurd (cc)), g (λ e. absurd (cc)), h tt)
+calm_same Limit i o r f g h = (f (λ e. absurd (cc)) (λ e. absurd (cc)), g (λ e. absurd (cc)), h tt)
+calm_same (Site at) i o r f g h = (f (λ e. absurd (cc)) (λ e. absurd (cc)), g (λ e. absurd (cc)))
+calm_same Input i o r f g h = g (λ e. absurd (cc))
+calm_same Output i o r f g h = f (λ e. absurd (cc)) (λ e. absurd (cc))
+calm_same Memory i o r f g h = tt
+calm_same Report i o r f g h = (f (λ e. absurd (cc)) (λ e. absurd (cc)), g (λ e. absurd (cc)))
+calm_same NotBuilt i o r f g h = (f (λ e. absurd (cc)) (λ e. absurd (cc)), g (λ e. absurd (cc)))
+
+calm_end : (s : Status) (i o r : Type 0) → HasEnd s → (s ≢ Input → s ≢ Memory → i) → (s ≢ Output → o) → IsCalm Report i o r
+calm_end s i o r h f g = (f (λ e. subst HasEnd e h) (λ e. subst HasEnd e h), g (λ e. subst HasEnd e h))
+
+pub calm_turned : (s now : Status) (i o r : Type 0) → Turned s now → (s ≢ Input → s ≢ Memory → i) → (s ≢ Output → o) → (IsReported now → r) → IsCalm now i o r
+calm_turned s now i o r (inl e) f g h = calm_same now i o r (λ a b. f (λ z. a (e ∙ z)) (λ z. b (e ∙ z))) (λ a. g (λ z. a (e ∙ z))) h
+calm_turned s now i o r (inr (inl t)) f g h = subst (λ z. IsCalm z i o r) (sym t.1) (calm_end s i o r t.0 f g)
+calm_turned s now i o r (inr (inr e)) f g h = subst (λ z. IsCalm z i o r) (sym e) tt

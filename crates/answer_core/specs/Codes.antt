@@ -44,8 +44,8 @@ HasEnd Memory = ⊥
 HasEnd Report = Unit {0}
 HasEnd NotBuilt = ⊥
 
--- what the record of a run that came to its end says, by its status; since the first three of these
--- exclude each other, each comes exactly where it says, but for a fault of the report
+-- what the record of a run says by its status; since the first three of these exclude each other, a run
+-- that came to its end and was reported has the one that its record says
 abbrev pub IsCoded : ℕ → Status → Record → Type 0
 IsCoded limit Ok r = (r.queued ≡ []) × (failures r.entries ≡ [])
 IsCoded limit Partial r = (r.queued ≡ []) × (failures r.entries ≢ [])
@@ -77,6 +77,32 @@ Fits Output None = ⊥
 Fits Memory None = Unit {0}
 Fits Report None = ⊥
 Fits NotBuilt None = Unit {0}
+
+-- a run that came to its end and was reported
+abbrev pub IsReported : Status → Type 0
+IsReported Ok = Unit {0}
+IsReported Partial = Unit {0}
+IsReported Limit = Unit {0}
+IsReported (Site at) = ⊥
+IsReported Input = ⊥
+IsReported Output = ⊥
+IsReported Memory = ⊥
+IsReported Report = ⊥
+IsReported NotBuilt = ⊥
+
+-- the first fault ends a run. So by the status these counts of faults are as they were, each told by
+-- its fact: those of the input, of the output and of the report. With Memory nothing is said, since it
+-- may come in place of any of them; and a report may fail where it does not change the status
+abbrev pub IsCalm : Status → (input output report : Type 0) → Type 0
+IsCalm Ok input output report = input × output × report
+IsCalm Partial input output report = input × output × report
+IsCalm Limit input output report = input × output × report
+IsCalm (Site at) input output report = input × output
+IsCalm Input input output report = output
+IsCalm Output input output report = input
+IsCalm Memory input output report = Unit {0}
+IsCalm Report input output report = input × output
+IsCalm NotBuilt input output report = input × output
 
 -- a run that came to its end and was reported, or want of memory
 abbrev pub IsWhole : Status → Type 0

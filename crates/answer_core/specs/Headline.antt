@@ -11,7 +11,7 @@ use Rattle.reach_terms.specs.declared.record.Record.{Record}
 use Rattle.reach_terms.specs.declared.web.Web.{Web}
 use Rattle.reach_terms.specs.Reach.{Text, Rule, IsReachable, HasOutcome}
 use Rattle.reach_terms.specs.Record.{IsTraversed, IsFaithful, HasEnded, LooksUpReachable, Unreached, merged_graph}
-use Rattle.plain_documents.specs.Outcome.{outcome_of}
+use Rattle.doc_reader.specs.Outcome.{outcome_of}
 use Rattle.traverse_core.specs.Query.{patterns_of, selected_names}
 use Rattle.answer_core.specs.declared.command.Command.{Command}
 use Rattle.answer_core.specs.Codes.{HasEnd}
@@ -32,7 +32,7 @@ rule_of c = record { criterion = c.criterion; patterns = patterns_of c.query }
 
 -- ---- the record
 
--- a status with a record, and one without
+-- a status that may have a record, and one that may lack it
 abbrev pub HasRecord : Status → Type 0
 HasRecord Ok = Unit {0}
 HasRecord Partial = Unit {0}
@@ -92,7 +92,7 @@ pub record IsBeyond (out : Link → Option Outcome) (r : Record) (seeds : List T
 -- limit is reached and a link is queued they are more
 pub record IsOfWeb (c : Command) (web : Web) (r : Record) : Type 0 where
   pub faithful : IsFaithful (outcome_of web body_limit) r
-  pub reached : (u : Text) → Unreached r.entries u → ⊥
+  pub none_unreached : (u : Text) → Unreached r.entries u → ⊥
   pub exactly : r.queued ≡ [] → LooksUpReachable (outcome_of web body_limit) r (seeds_of c) (rule_of c)
   pub within : r.queued ≡ [] → IsBeyond (outcome_of web body_limit) r (seeds_of c) (rule_of c) c.limit → ⊥
   pub beyond : r.queued ≢ [] → length r.entries ≡ c.limit → IsBeyond (outcome_of web body_limit) r (seeds_of c) (rule_of c) c.limit

@@ -1,9 +1,10 @@
-pub mod Words
-pub mod Query
-pub mod Command
 pub mod Bodies
 pub mod Codes
+pub mod Command
 pub mod Headline
 pub mod Input
+pub mod Query
 pub mod Reported
 pub mod Running
+pub mod Shown
+pub mod Words

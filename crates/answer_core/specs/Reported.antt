@@ -57,25 +57,27 @@ abbrev pub ToldReplaced : Option Record → Option (List ℕ) → Option (List �
 ToldReplaced (Some r) old new = ToldPrefix (ended_status r) (Some r) old new
 ToldReplaced None old new = ⊥
 
--- a prefix of the text that would have come: memory was wanted while it was written
-pub record ToldInstead (trace : Option Record) (old new : Option (List ℕ)) : Type 0 where
+-- a prefix of the text that would have come: memory was wanted while it was written. The status that it
+-- tells is shown, as each status is
+pub record ToldInstead (shown : Status → Type 0) (trace : Option Record) (old new : Option (List ℕ)) : Type 0 where
   pub status : Status
   pub other : status ≢ Memory
+  pub shows : shown status
   pub fits : Fits status trace
   pub told : ToldPrefix status trace old new
 
 -- a prefix of the line for want of memory, or of the text that would have come
-abbrev pub ToldMemory : Option Record → Option (List ℕ) → Option (List ℕ) → Type 0
-ToldMemory trace old new = GrewByPrefix old new memory_line ⊎ ToldInstead trace old new
+abbrev pub ToldMemory : (Status → Type 0) → Option Record → Option (List ℕ) → Option (List ℕ) → Type 0
+ToldMemory shown trace old new = GrewByPrefix old new memory_line ⊎ ToldInstead shown trace old new
 
--- by the status: `failed` is that the report's faults rose
-abbrev pub Reported : Status → Option Record → Option (List ℕ) → Option (List ℕ) → Type 0 → Type 0
-Reported Ok trace old new failed = Told Ok trace old new
-Reported Partial trace old new failed = Told Partial trace old new
-Reported Limit trace old new failed = Told Limit trace old new
-Reported (Site at) trace old new failed = ToldOrFailed (Site at) trace old new failed
-Reported Input trace old new failed = ToldOrFailed Input trace old new failed
-Reported Output trace old new failed = ToldOrFailed Output trace old new failed
-Reported Memory trace old new failed = ToldMemory trace old new
-Reported Report trace old new failed = failed × ToldReplaced trace old new
-Reported NotBuilt trace old new failed = ToldOrFailed NotBuilt trace old new failed
+-- by the status: `shown` says what shows a status that would have come, and `failed` that the report's faults rose
+abbrev pub Reported : (Status → Type 0) → Status → Option Record → Option (List ℕ) → Option (List ℕ) → Type 0 → Type 0
+Reported shown Ok trace old new failed = Told Ok trace old new
+Reported shown Partial trace old new failed = Told Partial trace old new
+Reported shown Limit trace old new failed = Told Limit trace old new
+Reported shown (Site at) trace old new failed = ToldOrFailed (Site at) trace old new failed
+Reported shown Input trace old new failed = ToldOrFailed Input trace old new failed
+Reported shown Output trace old new failed = ToldOrFailed Output trace old new failed
+Reported shown Memory trace old new failed = ToldMemory shown trace old new
+Reported shown Report trace old new failed = failed × ToldReplaced trace old new
+Reported shown NotBuilt trace old new failed = ToldOrFailed NotBuilt trace old new failed

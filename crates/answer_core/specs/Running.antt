@@ -46,6 +46,10 @@ abbrev pub WroteReport : Status → Status → List ℕ → Option (List ℕ) �
 WroteReport status now text old new failed =
     ((now ≡ status) × (new ≡ append_known old text)) ⊎ (((now ≡ failed_report status) × failed × GrewByPrefix old new text) ⊎ ((now ≡ Memory) × GrewByPrefix old new text))
 
+-- the status is that one
+abbrev pub Is : Status → Status → Type 0
+Is status s = s ≡ status
+
 -- the status after the report: the same, or a fault of the report in its place, or want of memory
 abbrev pub Turned : Status → Status → Type 0
 Turned status now = (now ≡ status) ⊎ ((HasEnd status × (now ≡ Report)) ⊎ (now ≡ Memory))

@@ -1,15 +1,16 @@
-ghost use Rattle.std.specs.Prelude.{◌≡◌, ◌⊎◌, ◌<◌, ◌≤◌, ◌+◌, ℕ, List, map, string_bytes, None, Some, IfSome, true, length};
+ghost use Rattle.std.specs.Prelude.{◌≡◌, ◌≢◌, ◌⊎◌, ◌<◌, ◌≤◌, ◌+◌, ℕ, List, map, string_bytes, None, Some, IfSome, true, length};
 ghost use Rattle.std.specs.Io.KnownBytes.{IsAtEnd};
 ghost use Rattle.link_uri.specs.Links.{AreLinks};
 ghost use Rattle.outer_ports.specs.Causes.{Rose};
 ghost use Rattle.site_core.specs.Text.{Entry, SiteText, site_limit};
 ghost use Rattle.answer_core.specs.Bodies.{are_built as are_built_bodies};
-ghost use Rattle.answer_core.specs.Codes.{HasEnd, IsCoded, IsWhole, Fits};
+ghost use Rattle.answer_core.specs.Codes.{IsCalm, IsCoded, IsWhole, Fits};
 ghost use Rattle.answer_core.specs.Command.{command_of};
 ghost use Rattle.answer_core.specs.declared.command.Command.{Command as Asked};
 ghost use Rattle.answer_core.specs.Headline.{Traversed, Written};
 ghost use Rattle.answer_core.specs.Input.{Saw, SawInput};
 ghost use Rattle.answer_core.specs.Reported.{Reported};
+ghost use Rattle.answer_core.specs.Shown.{Shown};
 
 use crate::Status;
 use crate::bodies::are_built;
@@ -29,15 +30,16 @@ fn answer_site<S: Sink>(alloc: Global, command: Command, site: Site, out: S) -> 
     ensures written { Written command result.status result.trace (S.content out) (S.content result.out) }
     ensures fits { Fits result.status result.trace }
     ensures output { result.status ≡ Status.Output → Rose (S.faults out) (S.faults result.out) }
+    ensures calm { result.status ≢ Status.Output → S.faults result.out ≡ S.faults out }
+    ensures later { S.faults out ≤ S.faults result.out }
     ensures untouched { result.trace ≡ None → result.out ≡ out }
     ensures saw { (bytes : List ℕ) → SiteText site bytes → Saw command result.status result.trace bytes (length bytes ≤ site_limit) }
     ensures input { result.status ≡ Status.Input → ⊥ }
 {
-    match are_built(alloc, site.entries()) {
-        Ok(true) => run_command(alloc, command, site, out),
-        Ok(false) => without_record(Status::NotBuilt, out),
-        Err(_) => without_record(Status::Memory, out),
+    if !are_built(site.entries()) {
+        return without_record(Status::NotBuilt, out);
     }
+    run_command(alloc, command, site, out)
 }
 
 /// Runs the command over the site that the bytes are.
@@ -48,6 +50,8 @@ fn answer_bytes<S: Sink>(alloc: Global, command: Command, bytes: &[u8], out: S) 
     ensures written { Written command result.status result.trace (S.content out) (S.content result.out) }
     ensures fits { Fits result.status result.trace }
     ensures output { result.status ≡ Status.Output → Rose (S.faults out) (S.faults result.out) }
+    ensures calm { result.status ≢ Status.Output → S.faults result.out ≡ S.faults out }
+    ensures later { S.faults out ≤ S.faults result.out }
     ensures untouched { result.trace ≡ None → result.out ≡ out }
     ensures saw { Saw command result.status result.trace bytes.now (length bytes.now ≤ site_limit) }
     ensures input { result.status ≡ Status.Input → ⊥ }
@@ -71,11 +75,14 @@ fn answer_command<I: Source, S: Sink>(
     ensures written { Written command result.status result.trace (S.content out) (S.content result.out) }
     ensures fits { Fits result.status result.trace }
     ensures output { result.status ≡ Status.Output → Rose (S.faults out) (S.faults result.out) }
+    ensures calm { result.status ≢ Status.Output → S.faults result.out ≡ S.faults out }
+    ensures later { S.faults out ≤ S.faults result.out }
     ensures untouched { result.trace ≡ None → result.out ≡ out }
     ensures saw { SawInput command result.status result.trace (I.left input.old) (I.left input.new)
         (Rose (I.ends input.old) (I.ends input.new) × IsAtEnd (I.left input.new)) }
     ensures input { result.status ≡ Status.Input → Rose (I.faults input.old) (I.faults input.new) }
-    ensures calm { HasEnd result.status → I.faults input.new ≡ I.faults input.old }
+    ensures rises { I.faults input.old ≤ I.faults input.new }
+    ensures still { result.status ≢ Status.Input → result.status ≢ Status.Memory → I.faults input.new ≡ I.faults input.old }
 {
     match read_all(alloc, input, INPUT_LIMIT + 1) {
         Ok(bytes) => answer_bytes(alloc, command, bytes.as_slice(), out),
@@ -101,9 +108,12 @@ fn answer_words<I: Source, S: Sink>(
         (Rose (I.ends input.old) (I.ends input.new) × IsAtEnd (I.left input.new)) }
     ensures fits { Fits result.status result.trace }
     ensures output { result.status ≡ Status.Output → Rose (S.faults out) (S.faults result.out) }
+    ensures calm { result.status ≢ Status.Output → S.faults result.out ≡ S.faults out }
+    ensures later { S.faults out ≤ S.faults result.out }
     ensures untouched { result.trace ≡ None → result.out ≡ out }
     ensures input { result.status ≡ Status.Input → Rose (I.faults input.old) (I.faults input.new) }
-    ensures calm { HasEnd result.status → I.faults input.new ≡ I.faults input.old }
+    ensures rises { I.faults input.old ≤ I.faults input.new }
+    ensures still { result.status ≢ Status.Input → result.status ≢ Status.Memory → I.faults input.new ≡ I.faults input.old }
 {
     match read_words(alloc, words) {
         Ok(Some(command)) => answer_command(alloc, command, input, out),
@@ -116,9 +126,12 @@ fn answer_words<I: Source, S: Sink>(
 /// that the input holds: looks up links from the seeds on, writes the answers of the query to `out`,
 /// tells in `report` what was looked up and what failed, and how it ended.
 ///
-/// Where the words, the query or a body of the site aren't of the forms of docs/FORMATS.md, the
-/// status is `NotBuilt` unless reading failed or memory ran out, and nothing is written to `out`. It
-/// costs what reading the input, the look-ups and the answers cost.
+/// The work goes in this order, and the first that happens ends it: words, a query or seeds that
+/// aren't of the forms of docs/FORMATS.md (`NotBuilt`, and nothing is read), a fault of the input
+/// (`Input`), bytes that are no site (`Site`), a body that isn't of those forms (`NotBuilt`), a fault
+/// of `out` (`Output`), and then how the run ended; a fault of the report (`Report`) stands in the
+/// place of that alone. Want of memory (`Memory`) may come at any point. Without a record nothing is
+/// written to `out`. It costs what reading the input, the look-ups and the answers cost.
 pub fn answer_alone<I: Source, S: Sink, R: Sink>(
     alloc: Global,
     words: &[String],
@@ -141,7 +154,7 @@ pub fn answer_alone<I: Source, S: Sink, R: Sink>(
         SawInput command result.status result.trace (I.left input.old) (I.left input.new)
         (Rose (I.ends input.old) (I.ends input.new) × IsAtEnd (I.left input.new)) }
 
-    // How the status follows from the record.
+    // What the record says, by the status.
     ensures codes { (command : Asked) → command_of (map string_bytes words.now) ≡ Some command →
         IfSome result.trace (IsCoded command.limit result.status) }
 
@@ -149,7 +162,10 @@ pub fn answer_alone<I: Source, S: Sink, R: Sink>(
     ensures untouched { result.trace ≡ None → result.out ≡ out }
 
     // What the report received.
-    ensures report { Reported result.status result.trace (R.content report.old) (R.content report.new)
+    ensures report { Reported (Shown (command_of (map string_bytes words.now)) result.trace (I.left input.old) (I.left input.new)
+        (Rose (I.ends input.old) (I.ends input.new) × IsAtEnd (I.left input.new)) (S.content out) (S.content result.out)
+        (Rose (I.faults input.old) (I.faults input.new)) (Rose (S.faults out) (S.faults result.out)))
+        result.status result.trace (R.content report.old) (R.content report.new)
         (Rose (R.faults report.old) (R.faults report.new)) }
 
     // Each fault has its cause.
@@ -157,9 +173,13 @@ pub fn answer_alone<I: Source, S: Sink, R: Sink>(
     ensures output_cause { result.status ≡ Status.Output → Rose (S.faults out) (S.faults result.out) }
     ensures report_cause { result.status ≡ Status.Report → Rose (R.faults report.old) (R.faults report.new) }
 
-    // With status Ok the input's count of faults and the report's did not rise.
-    ensures calm { result.status ≡ Status.Ok →
-        (I.faults input.new ≡ I.faults input.old) × (R.faults report.new ≡ R.faults report.old) }
+    // The first fault ends the run: the other counts of faults are as they were.
+    ensures calm { IsCalm result.status (I.faults input.new ≡ I.faults input.old)
+        (S.faults result.out ≡ S.faults out) (R.faults report.new ≡ R.faults report.old) }
+
+    // No count of faults falls.
+    ensures later { (I.faults input.old ≤ I.faults input.new) × (S.faults out ≤ S.faults result.out)
+        × (R.faults report.old ≤ R.faults report.new) }
 
     // Over a told input that is a site of the built form, and without faults, the run comes to its end.
     ensures complete { (command : Asked) → command_of (map string_bytes words.now) ≡ Some command →

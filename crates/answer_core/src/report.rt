@@ -1,6 +1,6 @@
-ghost use Rattle.std.specs.Prelude.{◌≡◌, ◌≢◌, IfOk, None, codes};
+ghost use Rattle.std.specs.Prelude.{◌≡◌, ◌≢◌, ◌≤◌, IfOk, None, codes};
 ghost use Rattle.outer_ports.specs.Causes.{Rose};
-ghost use Rattle.answer_core.specs.Codes.{Fits};
+ghost use Rattle.answer_core.specs.Codes.{Fits, IsReported};
 ghost use Rattle.answer_core.specs.Headline.{HasNoRecord};
 ghost use Rattle.answer_core.specs.Reported.{IsLineOf, IsTextOf, Reported};
 ghost use Rattle.answer_core.specs.Running.{Turned, WroteReport};
@@ -64,7 +64,8 @@ fn failed_report(status: Status) -> Status
 fn write_report<R: Sink>(status: Status, text: &[u8], report: &mut R) -> Status
     ensures wrote { WroteReport status result text.now (R.content report.old) (R.content report.new)
         (Rose (R.faults report.old) (R.faults report.new)) }
-    ensures calm { result ≡ Status.Ok → R.faults report.new ≡ R.faults report.old }
+    ensures calm { IsReported result → R.faults report.new ≡ R.faults report.old }
+    ensures later { R.faults report.old ≤ R.faults report.new }
 {
     match write_all(report, text) {
         Ok(()) => status,
@@ -82,10 +83,11 @@ fn report_text<R: Sink>(
     requires other { status ≢ Status.Memory }
     requires fits { Fits status trace.now }
     ensures turned { Turned status result }
-    ensures reported { Reported result trace.now (R.content report.old) (R.content report.new)
+    ensures reported { Reported (running.Is status) result trace.now (R.content report.old) (R.content report.new)
         (Rose (R.faults report.old) (R.faults report.new)) }
     ensures cause { result ≡ Status.Report → Rose (R.faults report.old) (R.faults report.new) }
-    ensures calm { result ≡ Status.Ok → R.faults report.new ≡ R.faults report.old }
+    ensures calm { IsReported result → R.faults report.new ≡ R.faults report.old }
+    ensures later { R.faults report.old ≤ R.faults report.new }
 {
     match text_of(alloc, status, trace) {
         Ok(text) => write_report(status, text.as_slice(), report),
@@ -102,10 +104,11 @@ pub(crate) fn tell<R: Sink>(
 ) -> Status
     requires fits { Fits status trace.now }
     ensures turned { Turned status result }
-    ensures reported { Reported result trace.now (R.content report.old) (R.content report.new)
+    ensures reported { Reported (running.Is status) result trace.now (R.content report.old) (R.content report.new)
         (Rose (R.faults report.old) (R.faults report.new)) }
     ensures cause { result ≡ Status.Report → Rose (R.faults report.old) (R.faults report.new) }
-    ensures calm { result ≡ Status.Ok → R.faults report.new ≡ R.faults report.old }
+    ensures calm { IsReported result → R.faults report.new ≡ R.faults report.old }
+    ensures later { R.faults report.old ≤ R.faults report.new }
 {
     match status {
         Status::Memory => write_report(Status::Memory, MEMORY_LINE, report),

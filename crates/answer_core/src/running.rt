@@ -1,5 +1,5 @@
 //! A run over a site: look-ups, answers, and how it ended.
-ghost use Rattle.std.specs.Prelude.{◌≡◌, [], None, IsTrue, IsSome, List};
+ghost use Rattle.std.specs.Prelude.{◌≡◌, ◌≢◌, ◌≤◌, [], None, IsTrue, IsSome, List};
 ghost use Rattle.outer_ports.specs.Causes.{Rose};
 ghost use Rattle.link_uri.specs.Links.{AreLinks};
 ghost use Rattle.link_queue.specs.Table.{flying};
@@ -83,6 +83,8 @@ fn run_to_end<J: Job, S: Sink, F: Fetcher>(run: Traversal<J, S>, fetcher: &mut F
     ensures web { (site : List Entry) → IsOverSite J.run site → FitsWeb (asked J.run) (web_of_site site) result.trace }
     ensures fits { Fits result.status result.trace }
     ensures output { result.status ≡ Status.Output → Rose J.run.faults (S.faults result.out) }
+    ensures calm { result.status ≢ Status.Output → S.faults result.out ≡ J.run.faults }
+    ensures later { J.run.faults ≤ S.faults result.out }
 {
     let mut run = run;
     let ran = run.run_alone(fetcher, BODY_LIMIT);
@@ -105,6 +107,8 @@ fn run_named<J: Job, S: Sink>(alloc: Global, command: Command, site: Site, out: 
     ensures web { FitsWeb command (web_of_site site) result.trace }
     ensures fits { Fits result.status result.trace }
     ensures output { result.status ≡ Status.Output → Rose (S.faults out) (S.faults result.out) }
+    ensures calm { result.status ≢ Status.Output → S.faults result.out ≡ S.faults out }
+    ensures later { S.faults out ≤ S.faults result.out }
     ensures none { result.trace ≡ None → result.status ≡ Status.Memory }
     ensures untouched { result.trace ≡ None → result.out ≡ out }
 {
@@ -140,6 +144,8 @@ pub(crate) fn run_command<S: Sink>(alloc: Global, command: Command, site: Site, 
     ensures web { FitsWeb command (web_of_site site) result.trace }
     ensures fits { Fits result.status result.trace }
     ensures output { result.status ≡ Status.Output → Rose (S.faults out) (S.faults result.out) }
+    ensures calm { result.status ≢ Status.Output → S.faults result.out ≡ S.faults out }
+    ensures later { S.faults out ≤ S.faults result.out }
     ensures none { result.trace ≡ None → result.status ≡ Status.Memory }
     ensures untouched { result.trace ≡ None → result.out ≡ out }
 {

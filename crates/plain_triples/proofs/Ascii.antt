@@ -7,7 +7,7 @@ use Rattle.std.proofs.lemmas.Str.{IsUtf8-from_ascii}
 use Rattle.std.proofs.lemmas.Str.Ascii.{IsAscii-nil}
 use Rattle.std.proofs.lemmas.Bool.Decides.{nat_tests}
 use Rattle.std.proofs.lemmas.Bool.{and_parts}
-use Rattle.plain_triples.specs.Pieces.{is_iri_byte, is_allowed, is_plain_iri, is_string_byte, is_unescaped}
+use Rattle.plain_triples.specs.Pieces.{is_iri_byte, is_allowed, is_plain_iri}
 
 pub ascii_from : (p : ℕ → Bool) (bs : List ℕ) → ((b : ℕ) → p b ≡ true → b < 128) → list_all p bs ≡ true → IsAscii bs
 ascii_from p [] below all i = IsAscii-nil i
@@ -18,14 +18,6 @@ below_iri : (b : ℕ) → is_iri_byte b ≡ true → b < 128
 below_iri b h =
     let upper : nat_le b 126 ≡ true = (and_parts (nat_le b 126) (is_allowed b) (and_parts (nat_le 33 b) (nat_le b 126 && is_allowed b) h).1).0 in
     grind (arith, nat_tests)
-
-below_string : (b : ℕ) → is_string_byte b ≡ true → b < 128
-below_string b h =
-    let upper : nat_le b 126 ≡ true = (and_parts (nat_le b 126) (is_unescaped b) (and_parts (nat_le 32 b) (nat_le b 126 && is_unescaped b) h).1).0 in
-    grind (arith, nat_tests)
-
-pub string_utf8 : (text : List ℕ) → list_all is_string_byte text ≡ true → IsUtf8 text
-string_utf8 text h = IsUtf8-from_ascii text (ascii_from is_string_byte text below_string h)
 
 pub iri_utf8 : (text : List ℕ) → is_plain_iri text ≡ true → IsUtf8 text
 iri_utf8 text h =

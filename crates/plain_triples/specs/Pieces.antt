@@ -1,5 +1,5 @@
--- The pieces that plain lines and plain queries are made of (docs/FORMATS.md, "Plain lines").
-use Rattle.std.specs.Prelude.{ℕ, ◌-◌, ◌==◌, nat_eq, nat_le, nat_lt, List, [], ◌∷◌, ◌&&◌, not, Bool, Option, Some, None, codes, if◌then◌else◌, length, take, drop, bytes_eq}
+-- The pieces that plain queries are made of (docs/FORMATS.md, "The built words").
+use Rattle.std.specs.Prelude.{ℕ, ◌-◌, nat_eq, nat_le, nat_lt, List, [], ◌∷◌, ◌&&◌, not, Bool, Option, Some, None, codes, if◌then◌else◌, length, take, drop}
 use Rattle.std.specs.List.{list_all, list_any, starts_with, ends_with}
 
 -- the text begins with one byte and ends with another one
@@ -11,7 +11,7 @@ is_between front back text =
 abbrev pub inner : List ℕ → List ℕ
 inner text = take (length text - 2) (drop 1 text)
 
--- none of the signs that an IRIREF has only by an escape (RDF 1.1 N-Triples, section 7)
+-- none of the signs that an IRIREF has only by an escape (SPARQL 1.1 Query Language, section 19.8)
 abbrev pub is_allowed : ℕ → Bool
 is_allowed b = not (list_any (λ x. nat_eq x b) (codes "<>\"{}|^`\\"))
 
@@ -26,18 +26,6 @@ is_plain_iri iri = starts_with nat_eq iri (codes "http://") && (nat_lt 7 (length
 -- the IRI of a piece `<http://...>`
 abbrev pub iri_of : List ℕ → Option (List ℕ)
 iri_of piece = if is_between 60 62 piece && is_plain_iri (inner piece) then Some (inner piece) else None
-
--- neither the quote nor the backslash
-abbrev pub is_unescaped : ℕ → Bool
-is_unescaped b = not (nat_eq b 34) && not (nat_eq b 92)
-
--- the characters 20 to 7E, without the quote and the backslash
-abbrev pub is_string_byte : ℕ → Bool
-is_string_byte b = nat_le 32 b && (nat_le b 126 && is_unescaped b)
-
--- the string of a piece `"..."`
-abbrev pub string_of : List ℕ → Option (List ℕ)
-string_of piece = if is_between 34 34 piece && list_all is_string_byte (inner piece) then Some (inner piece) else None
 
 -- the test that a byte is this one
 abbrev pub is_byte : ℕ → ℕ → Bool

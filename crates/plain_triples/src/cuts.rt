@@ -34,15 +34,3 @@ pub fn cut_at(byte: u8, text: &[u8]) -> Option<(&[u8], &[u8])>
     }
     Some((&text[..at], behind(text, at + 1)))
 }
-
-/// What stands before the first such byte and behind it; without one all stands before it.
-pub fn cut_or_all(byte: u8, text: &[u8]) -> (&[u8], &[u8])
-    ensures before { result.0.now ≡ before_first (is_byte byte) text.now }
-    ensures after { result.1.now ≡ after_first (is_byte byte) text.now }
-{
-    let at = place_of(byte, text);
-    if at == text.len() {
-        return (text, &text[..0]);
-    }
-    (&text[..at], behind(text, at + 1))
-}

@@ -1,16 +1,13 @@
-//! Plain lines: the part of N-Triples that a line at a time can be read of, and its pieces.
+//! The pieces of plain queries: cuts at a byte, and IRI pieces.
 //!
-//! Promise: `read_triples` answers the triples of exactly the texts of `specs/Lines.antt`; a piece
-//! is what `specs/Pieces.antt` says.
-//! Not here: N-Triples whole. The crate is removed once that is read.
+//! Promise: a cut stands at the first such byte; a piece is what `specs/Pieces.antt` says.
+//! Not here: queries and documents whole. The crate is removed once queries are read whole.
 #![tactic(auto)]
 
 mod cuts;
-mod lines;
 mod pieces;
 #[cfg(test)]
 mod tests;
 
-pub use crate::cuts::{behind, cut_at, cut_or_all};
-pub use crate::lines::read_triples;
-pub use crate::pieces::{iri_of, string_of, utf8_text};
+pub use crate::cuts::{behind, cut_at};
+pub use crate::pieces::{iri_of, utf8_text};

@@ -38,23 +38,6 @@ fn is_plain_iri(iri: &[u8]) -> bool
     iri.starts_with(b"http://") && 7 < iri.len() && are_iri_bytes(iri)
 }
 
-fn is_string_byte(b: u8) -> bool
-    ensures { result ≡ spec.is_string_byte b }
-{
-    32 <= b && b <= 126 && b != b'"' && b != b'\\'
-}
-
-fn are_string_bytes(text: &[u8]) -> bool
-    ensures { result ≡ list_all spec.is_string_byte text.now }
-{
-    for b in text {
-        if !is_string_byte(*b) {
-            return false;
-        }
-    }
-    true
-}
-
 /// Bytes in UTF-8 as a text.
 pub fn utf8_text(bytes: &[u8]) -> &str
     requires { IsUtf8 bytes.now }
@@ -68,17 +51,6 @@ pub fn iri_of(piece: &[u8]) -> Option<&str>
     ensures { option_map (λ s. s.now) result ≡ spec.iri_of piece.now }
 {
     if is_between(b'<', b'>', piece) && is_plain_iri(inner(piece)) {
-        Some(utf8_text(inner(piece)))
-    } else {
-        None
-    }
-}
-
-/// The string of a piece `"..."`, or none where the text is no such piece.
-pub fn string_of(piece: &[u8]) -> Option<&str>
-    ensures { option_map (λ s. s.now) result ≡ spec.string_of piece.now }
-{
-    if is_between(b'"', b'"', piece) && are_string_bytes(inner(piece)) {
         Some(utf8_text(inner(piece)))
     } else {
         None

@@ -1,6 +1,6 @@
 -- How the counts of a fetcher go with the entries of a run.
 use Rattle.std.proofs.Common.{ℕ, ◌≡◌, ◌≢◌, ◌+◌, ◌<◌, ◌≤◌, List, [], ◌∷◌, ◌++◌, Option, Some, None, Bool, true, false, refl, sym, ◌∙◌, ap, subst, arith, length, length-append}
-use Rattle.std.specs.Prelude.{if◌then◌else◌, not, ◌==◌, ◌||◌, nat_lt}
+use Rattle.std.specs.Prelude.{if◌then◌else◌, not, ◌==◌, ◌||◌, nat_lt, Result, Ok, Err}
 use Rattle.std.specs.Option.{option_map}
 use Rattle.std.proofs.lemmas.Option.{same_Some}
 use Rattle.rdf_terms.specs.declared.triple.Triple.{Triple}
@@ -11,8 +11,8 @@ use Rattle.link_uri.specs.declared.heard.Reply.{Reply}
 use Rattle.link_uri.specs.declared.heard.Heard.{Heard}
 use Rattle.link_uri.specs.declared.heard.Heard.TheVariants.{Reply as Replied, Malformed, TooLong, Never}
 use Rattle.link_uri.specs.Heard.{is_uncoded, is_turtle, is_ntriples}
-use Rattle.plain_triples.specs.Lines.{triples_of}
-use Rattle.plain_documents.specs.Outcome.{is_redirect, location_link, moved_or_refused, document_or_refused, body_outcome, reply_outcome, heard_outcome, scheme_outcome, outcome}
+use Rattle.doc_reader.specs.Reading.{ntriples_reading}
+use Rattle.doc_reader.specs.Outcome.{is_redirect, location_link, moved_or_refused, document_or_refused, text_outcome, body_outcome, reply_outcome, heard_outcome, scheme_outcome, outcome}
 use Rattle.reach_terms.specs.declared.outcome.Outcome.{Outcome}
 use Rattle.reach_terms.specs.declared.outcome.Outcome.TheVariants.{Document, Moved, Refused}
 use Rattle.reach_terms.specs.declared.outcome.Why.TheVariants as why
@@ -165,20 +165,23 @@ moved_one : (to : Option Link) → IsOne (moved_or_refused to)
 moved_one (Some to) = refl
 moved_one None = refl
 
-document_one : (triples : Option (List Triple)) → IsOne (document_or_refused triples)
-document_one (Some triples) = refl
-document_one None = refl
+document_one : (r : Result (List Triple) ℕ) → IsOne (document_or_refused r)
+document_one (Ok triples) = refl
+document_one (Err at) = refl
 
-body_one : (reply : Reply) (limit : ℕ) → IsOne (body_outcome reply limit)
-body_one reply limit =
+text_one : (link : Link) (reply : Reply) → IsOne (text_outcome link reply)
+text_one link reply = pick (is_turtle reply) _ _ refl (document_one (ntriples_reading link.text reply.body))
+
+body_one : (link : Link) (reply : Reply) (limit : ℕ) → IsOne (body_outcome link reply limit)
+body_one link reply limit =
     pick (not (is_uncoded reply)) _ _ refl
     (pick (not (is_turtle reply || is_ntriples reply)) _ _ refl
-    (pick (nat_lt limit (length reply.body)) _ _ refl (document_one (triples_of reply.body))))
+    (pick (nat_lt limit (length reply.body)) _ _ refl (text_one link reply)))
 
 reply_one : (link : Link) (reply : Reply) (limit : ℕ) → IsOne (reply_outcome link reply limit)
 reply_one link reply limit =
     pick (is_redirect reply.status) _ _ (moved_one (location_link link reply.location))
-    (pick (not (reply.status == 200)) _ _ refl (body_one reply limit))
+    (pick (not (reply.status == 200)) _ _ refl (body_one link reply limit))
 
 heard_one : (link : Link) (heard : Heard) (limit : ℕ) (o : Outcome) → heard_outcome link heard limit ≡ Some o → IsOne o
 heard_one link (Replied reply) limit o e = subst IsOne (same_Some _ _ e) (reply_one link reply limit)

@@ -23,7 +23,7 @@ use Rattle.reach_terms.specs.declared.web.Web.{Web}
 use Rattle.reach_terms.specs.Reach.{Text, Rule}
 use Rattle.reach_terms.specs.Record.{entry_links, AgreesWith, IsFaithful, IsTraversed, HasEnded, LooksUpReachable, merged_graph}
 use Rattle.reach_terms.proofs.Reachable.{looks_up_reachable}
-use Rattle.plain_documents.specs.Outcome.{outcome_of}
+use Rattle.doc_reader.specs.Outcome.{outcome_of}
 use Rattle.algebra_core.specs.declared.query.Query.{Query}
 use Rattle.algebra_core.specs.Meaning.{eval}
 use Rattle.algebra_core.specs.Order.{row_cmp}

@@ -1,6 +1,6 @@
 -- What each step leaves of the entries and of the sink's faults, and that writing comes to an end.
 use Rattle.std.proofs.Common.{ℕ, ◌≡◌, ◌+◌, ◌-◌, ◌<◌, ◌≤◌, List, [], ◌∷◌, ◌++◌, Option, Some, None, Bool, true, false, refl, sym, ◌∙◌, ap, subst, arith, length, length-append, append-nil, append_assoc, drop}
-use Rattle.std.specs.Prelude.{◌^◌, ◌==◌, ◌&&◌, min, not, is_none, if◌then◌else◌, IsTrue}
+use Rattle.std.specs.Prelude.{◌≢◌, ◌^◌, ◌==◌, ◌&&◌, min, not, is_none, if◌then◌else◌, IsTrue}
 use Rattle.std.proofs.Math.Seq.{drop-append_seam, drop-length}
 use Rattle.std.proofs.lemmas.List.{length-drop, drop-drop}
 use Rattle.std.proofs.lemmas.Bool.Decides.{nat_tests}
@@ -31,24 +31,35 @@ rose_from a b c l h = rose_least a b c (2 ^ 64 - 1) l h
 behind : {X : Type 0} (xs ys zs : List X) → ys ≡ xs ++ zs → ys ≡ xs ++ drop (length xs) ys
 behind xs ys zs e = e ∙ ap (λ (l : List _). xs ++ l) (sym (drop-append_seam xs zs) ∙ ap (λ (l : List _). drop (length xs) l) (sym e))
 
+not_output : (h : Option Halt) → h ≡ None → h ≡ Some halt.Output → ⊥
+not_output h e f = absurd (cc)
+
 -- the same entries, and the run is not halted by output
-pub on_same : (s t : State) → t.entries ≡ s.entries → s.out.faults ≤ t.out.faults → (t.halted ≡ Some halt.Output → Rose s.out.faults t.out.faults) → RunsOn s t
-on_same s t e l f = record { entries = behind s.entries t.entries [] (e ∙ sym (append-nil s.entries)); later = l; failed = f }
+pub on_same : (s t : State) → s.halted ≡ None → t.entries ≡ s.entries → s.out.faults ≤ t.out.faults → (t.halted ≡ Some halt.Output → Rose s.out.faults t.out.faults)
+    → (t.halted ≢ Some halt.Output → t.out.faults ≡ s.out.faults) → RunsOn s t
+on_same s t h e l f c =
+    record { entries = behind s.entries t.entries [] (e ∙ sym (append-nil s.entries)); later = l; stays = λ o. absurd (not_output s.halted h o); failed = f; calm = c }
+
+-- the same entries and faults, and the run goes on
+pub on_calm : (s t : State) → s.halted ≡ None → t.halted ≡ None → t.entries ≡ s.entries → t.out.faults ≡ s.out.faults → RunsOn s t
+on_calm s t h k e f = on_same s t h e (omega arith) (λ o. absurd (not_output t.halted k o)) (λ o. f)
 
 pub on_none : (s : State) → s.halted ≡ None → RunsOn s s
-on_none s h = on_same s s refl (omega arith) (λ f. absurd (cc))
+on_none s h = on_calm s s h h refl refl
 
 -- one more entry; the output stays
 pub on_entry : (s t : State) (e : Entry) → s.halted ≡ None → t.entries ≡ s.entries ++ e ∷ [] → t.out ≡ s.out → t.halted ≡ s.halted → RunsOn s t
 on_entry s t e h is out halted = record {
   entries = behind s.entries t.entries (e ∷ []) is;
   later = let f = ap (λ (o : Output). o.faults) out in omega arith;
-  failed = λ f. absurd (cc);
+  stays = λ o. absurd (not_output s.halted h o);
+  failed = λ f. absurd (not_output t.halted (halted ∙ h) f);
+  calm = λ o. ap (λ (x : Output). x.faults) out;
 }
 
 -- nothing but the table changes
 pub on_table : (s t : State) → s.halted ≡ None → t ≡ record s { table = t.table } → RunsOn s t
-on_table s t h e = on_same s t (ap (λ (x : State). x.entries) e) (let f = ap (λ (x : State). x.out.faults) e in omega arith) (λ f. let g = ap (λ (x : State). x.halted) e in absurd (cc))
+on_table s t h e = on_calm s t h (ap (λ (x : State). x.halted) e ∙ h) (ap (λ (x : State). x.entries) e) (ap (λ (x : State). x.out.faults) e)
 
 pub runs_on : (s t u : State) → RunsOn s t → RunsOn t u → RunsOn s u
 runs_on s t u a b =
@@ -58,7 +69,9 @@ runs_on s t u a b =
       entries = behind s.entries u.entries (entries_since s t ++ entries_since t u)
           (b.entries ∙ (ap (λ (l : List Entry). l ++ entries_since t u) a.entries ∙ append_assoc s.entries (entries_since s t) (entries_since t u)));
       later = omega arith;
+      stays = λ h. b.stays (a.stays h);
       failed = λ h. rose_from s.out.faults t.out.faults u.out.faults a.later (b.failed h);
+      calm = λ h. b.calm h ∙ a.calm (λ o. h (b.stays o));
     }
 
 -- ---- halting
@@ -67,9 +80,19 @@ was_output : (h : Option Halt) → (if is_none h then Some halt.Memory else h) �
 was_output None e = absurd (cc)
 was_output (Some x) e = e
 
+still_output : (h : Option Halt) → h ≡ Some halt.Output → (if is_none h then Some halt.Memory else h) ≡ Some halt.Output
+still_output None e = absurd (cc)
+still_output (Some x) e = e
+
 pub on_halted : (s t u : State) → u ≡ halted_by_memory t → RunsOn s t → RunsOn s u
 on_halted s t u e k =
-    subst (RunsOn s) (sym e) (record { entries = k.entries; later = k.later; failed = λ h. k.failed (was_output t.halted h) })
+    subst (RunsOn s) (sym e) (record {
+      entries = k.entries;
+      later = k.later;
+      stays = λ h. still_output t.halted (k.stays h);
+      failed = λ h. k.failed (was_output t.halted h);
+      calm = λ h. k.calm (λ o. h (still_output t.halted o));
+    })
 
 some_halt : (h : Option Halt) → (if is_none h then Some halt.Memory else h) ≡ None → ⊥
 some_halt None e = absurd (cc)
@@ -118,7 +141,7 @@ wrote_on s t u a b = record { on = runs_on s t u a.on b.on; same = same_on s t u
 
 pub step_wrote : (s t : State) (w : Written) → s.halted ≡ None → WritesOut s t w → WroteOn s t
 step_wrote s t Wrote h w = record {
-  on = on_same s t (ap (λ (x : State). x.entries) w.1) (let f = wrote_faults s.out t.out w.0 in omega arith) (λ f. let g = ap (λ (x : State). x.halted) w.1 in absurd (cc));
+  on = on_calm s t h (ap (λ (x : State). x.halted) w.1 ∙ h) (ap (λ (x : State). x.entries) w.1) (wrote_faults s.out t.out w.0);
   same = same_out s t w.1 (wrote_same s.out t.out w.0);
   drawn = ap (λ (x : State). x.drawn) w.1;
 }
@@ -126,7 +149,7 @@ step_wrote s t Clear h w = subst (WroteOn s) (sym w.1) (wrote_none s h)
 step_wrote s t Failed h w =
     let same = kept_same s.out t.out w.0 in
     record {
-      on = on_same s t (ap (λ (x : State). x.entries) w.2) w.0.later (λ f. w.1);
+      on = on_same s t h (ap (λ (x : State). x.entries) w.2) w.0.later (λ f. w.1) (λ o. absurd (o (ap (λ (x : State). x.halted) w.2)));
       same = record { table = ap (λ (x : State). x.table) w.2; entries = ap (λ (x : State). x.entries) w.2; log = ap (λ (x : State). x.log) w.2; closed = same.closed };
       drawn = ap (λ (x : State). x.drawn) w.2;
     }
@@ -138,7 +161,7 @@ wrote_whole s t h w = ap (λ (x : State). x.halted) w.1 ∙ h
 -- closing, where all was written: the rows are the output's, and the entries stay
 pub closed_on : (run : Run) (s t : State) → s.halted ≡ None → Closes run s t → RunsOn s t
 closed_on run s t h c =
-    on_same s t (ap (λ (x : State). x.entries) c.is) (let f = ap (λ (x : State). x.out.faults) c.is in omega arith) (λ f. let g = ap (λ (x : State). x.halted) c.is in absurd (cc))
+    on_calm s t h (ap (λ (x : State). x.halted) c.is ∙ h) (ap (λ (x : State). x.entries) c.is) (ap (λ (x : State). x.out.faults) c.is)
 
 -- ---- how much text is left
 

@@ -27,7 +27,7 @@ use Rattle.reach_terms.specs.declared.record.Found.TheVariants.{Outcome as Told,
 use Rattle.reach_terms.specs.declared.web.Web.{Web}
 use Rattle.reach_terms.specs.Web.{Fetch, heard_at}
 use Rattle.reach_terms.specs.Reach.{Text}
-use Rattle.plain_documents.specs.Outcome.{outcome, scheme_outcome}
+use Rattle.doc_reader.specs.Outcome.{outcome, scheme_outcome}
 use Rattle.web_port.specs.declared.flight.Flight.{Flight}
 use Rattle.web_port.specs.declared.fetcher.Got.{Got}
 use Rattle.web_port.specs.declared.fetcher.Got.TheVariants.{Heard as Answered, Unreachable as Lost}
@@ -42,7 +42,7 @@ use Rattle.traverse_core.specs.Totals.{Paid, Covered, Totals, StartsExactly, tal
 use Rattle.traverse_core.specs.Alone.{Serves, IsOut, IsShared, found_of, IsAnswer, IsReady, InStep, TakesTurn, turns_left, RunsOn, entries_since, BeginsBy, SettlesGot}
 use Rattle.traverse_core.proofs.Settling.{settled_flies}
 use Rattle.traverse_core.proofs.Balance.{Pays, pays, counts_for, paid_entry, paid_refused, paid_starts, paid_exactly, covered_totals}
-use Rattle.traverse_core.proofs.RunningOn.{on_same, on_entry, running_whole}
+use Rattle.traverse_core.proofs.RunningOn.{on_calm, on_entry, running_whole}
 
 -- ---- the table
 
@@ -334,7 +334,7 @@ in_step_of run f g l m s p e k = subst (λ (h : Fetch). InStep run h m s p) (sym
 -- ---- what a turn leaves of the entries and the output
 
 begun_on_by : (run : Run) (s t : State) (p q : Port) (n : ℕ) (u : Link) (by : Scheme) → s.halted ≡ None → BeginsBy by run n u.text (restated s n InFlight) p t q → RunsOn s t
-begun_on_by run s t p q n u Http whole b = subst (RunsOn s) (sym b.0) (on_same s (restated s n InFlight) refl (omega arith) (λ f. absurd (cc)))
+begun_on_by run s t p q n u Http whole b = subst (RunsOn s) (sym b.0) (on_calm s (restated s n InFlight) whole whole refl refl)
 begun_on_by run s t p q n u Https whole b = on_entry s t (record { link = u.text; found = Told (Refused why.Scheme) }) whole (ap (λ (x : State). x.entries) b.1) (ap (λ (x : State). x.out) b.1) (ap (λ (x : State). x.halted) b.1)
 
 pub begun_on : (run : Run) (s m t : State) (p q : Port) (n : ℕ) → IsTrue (is_running s) → Some n ≡ next_of run s → m ≡ restated s n InFlight → ((u : Link) → link_at m.table n ≡ Some u → BeginsBy u.scheme run n u.text m p t q) → RunsOn s t

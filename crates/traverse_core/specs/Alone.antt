@@ -17,7 +17,7 @@ use Rattle.reach_terms.specs.declared.record.Found.{Found}
 use Rattle.reach_terms.specs.declared.record.Found.TheVariants.{Outcome as Told, Unreachable}
 use Rattle.reach_terms.specs.Web.{Fetch}
 use Rattle.reach_terms.specs.Reach.{Text}
-use Rattle.plain_documents.specs.Outcome.{outcome}
+use Rattle.doc_reader.specs.Outcome.{outcome}
 use Rattle.web_port.specs.declared.flight.Flight.{Flight}
 use Rattle.web_port.specs.declared.fetcher.Got.{Got}
 use Rattle.web_port.specs.declared.fetcher.Got.TheVariants.{Heard as Answered, Unreachable as Lost}
@@ -47,12 +47,14 @@ pub record IsDone (s : State) : Type 0 where
   pub clear : IsClear s.out
   pub whole : s.halted ≡ None
 
--- entries only come, behind the others; the sink's faults don't fall, and they rose where the run,
--- which was not halted, is now halted by output
+-- entries only come, behind the others; a run that is halted by output stays so; the sink's faults
+-- rose where the run, which was not halted, is now halted by output, and else they are as they were
 pub record RunsOn (s t : State) : Type 0 where
   pub entries : t.entries ≡ s.entries ++ entries_since s t
   pub later : s.out.faults ≤ t.out.faults
+  pub stays : s.halted ≡ Some halt.Output → t.halted ≡ Some halt.Output
   pub failed : t.halted ≡ Some halt.Output → Rose s.out.faults t.out.faults
+  pub calm : t.halted ≢ Some halt.Output → t.out.faults ≡ s.out.faults
 
 -- the links stand as they did; more may be drawn and written, and the run may be halted
 pub record SameLinks (s t : State) : Type 0 where

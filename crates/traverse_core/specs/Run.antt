@@ -16,7 +16,7 @@ use Rattle.reach_terms.specs.declared.record.Found.TheVariants.{Outcome as Told,
 use Rattle.reach_terms.specs.declared.web.Web.{Web}
 use Rattle.reach_terms.specs.Web.{Fetch, heard_at}
 use Rattle.reach_terms.specs.Reach.{Rule, Text}
-use Rattle.plain_documents.specs.Outcome as documents
+use Rattle.doc_reader.specs.Outcome as documents
 use Rattle.algebra_core.specs.declared.query.Query.{Query}
 use Rattle.traverse_core.specs.Query.{patterns_of}
 

@@ -1,5 +1,5 @@
 //! A run by one caller, with one fetcher: it waits for nobody, and returns.
-ghost use Rattle.std.specs.Prelude.{◌≡◌, ◌↔◌, ◌++◌, [], None, Some, IsTrue, OnOk, OnErr};
+ghost use Rattle.std.specs.Prelude.{◌≡◌, ◌≢◌, ◌≤◌, ◌↔◌, ◌++◌, [], None, Some, IsTrue, OnOk, OnErr};
 ghost use Rattle.link_queue.specs.Table.{flying};
 ghost use Rattle.outer_ports.specs.Causes.{Rose};
 ghost use Rattle.traverse_core.specs.State.{is_running};
@@ -29,7 +29,7 @@ pub enum Ran {
 // Takes turns until none is left, and closes.
 //
 // It returns: a turn begins a link or settles one. Each link is begun at most once and settled at
-// most once, and no more links are begun than the limit allows; so 2 * (limit - settled) - begun
+// most once, and no more links are begun than the limit allows; so 2 * (limit - settled) - in flight
 // falls with each turn. Within a turn each loop has a number that falls too: the triples left to
 // draw, the bytes left to write, and how often the fetcher may still be pending.
 fn take_turns<J: Job, S: Sink, F: Fetcher>(
@@ -116,6 +116,8 @@ impl<J: Job, S: Sink> Traversal<J, S> {
         ensures output { result ≡ Ran.Output → (self.new.halted ≡ Some Halt.Output)
             × Rose self.old.out.faults self.new.out.faults }
         ensures memory { result ≡ Ran.Memory → self.new.halted ≡ Some Halt.Memory }
+        ensures calm { result ≢ Ran.Output → self.new.out.faults ≡ self.old.out.faults }
+        ensures later { self.old.out.faults ≤ self.new.out.faults }
         ensures given_back { flying self.new.table ≡ 0 }
 
         // What every state keeps, and what is added.

@@ -5,7 +5,7 @@ ghost use Rattle.link_uri.specs.Links.{IsLink, AreLinks};
 ghost use Rattle.link_queue.specs.Table.{link_at, state_at, flying, first_flying, marks, queued_links};
 ghost use Rattle.link_queue.specs.declared.state.LinkState.TheVariants.{Queued, InFlight};
 ghost use Rattle.json_results.specs.Results.{result_text};
-ghost use Rattle.plain_documents.specs.Outcome.{outcome_of};
+ghost use Rattle.doc_reader.specs.Outcome.{outcome_of};
 ghost use Rattle.algebra_core.specs.Query.{Answers};
 ghost use Rattle.traverse_core.specs.Query.{selected_names};
 ghost use Rattle.rows_core.specs.Rows.{Cells};
@@ -326,7 +326,7 @@ impl<J: Job, S: Sink> Traversal<J, S> {
         ensures traversed { IsTraversed result.trace (seeds_of J.run) (rule_of J.run) J.run.limit }
         ensures faithful { IfSome J.run.fetch.web (λ web. IsFaithful (outcome_of web J.run.body) result.trace) }
         ensures ended { IsTrue self.out.closed → HasEnded result.trace J.run.limit }
-        // with nothing queued, as once closed below the limit
+        // with nothing queued
         ensures reachable { result.trace.queued ≡ [] → IfSome J.run.fetch.web (λ web.
             LooksUpReachable (outcome_of web J.run.body) result.trace (seeds_of J.run) (rule_of J.run)) }
         ensures out { (S.content result.out ≡ self.out.content) × (S.faults result.out ≡ self.out.faults) }

@@ -1,15 +1,15 @@
 ghost use Rattle.std.specs.Prelude.{◌≡◌, ◌<◌, length, IfOk, Some};
 ghost use Rattle.link_uri.specs.declared.link.Link.{Link as link};
 ghost use Rattle.link_queue.specs.Table.{link_at};
-ghost use Rattle.plain_documents.specs.Outcome as documents;
+ghost use Rattle.doc_reader.specs.Outcome as documents;
 ghost use Rattle.traverse_core.specs.Alone.{found_of, IsAnswer};
 ghost use Rattle.traverse_core.specs.Run.{HasLinks};
 
 use crate::job::Job;
 use crate::traversal::Traversal;
+use doc_reader::classify;
 use link_uri::Heard;
 use outer_ports::Sink;
-use plain_documents::classify;
 use rdf_terms::Memory;
 use reach_terms::{Found, Outcome};
 use web_port::Got;

@@ -1,6 +1,11 @@
 use Rattle.std.specs.Io.KnownBytes.{IsAtEnd}
 use Rattle.outer_ports.specs.Causes.{Rose}
-use Rattle.answer_core.proofs.Turning.{written_turned, saw_turned, turned_input, turned_output}
+use Rattle.answer_core.proofs.Turning.{written_turned, saw_turned, turned_input, turned_output, calm_turned}
+use Rattle.std.specs.Prelude.{◌≡◌, map, string_bytes}
+use Rattle.answer_core.specs.Command.{command_of}
+use Rattle.answer_core.specs.Running.{Is}
+use Rattle.answer_core.specs.Shown.{Shown}
+use Rattle.answer_core.proofs.Reports.{reported_as, shown}
 use Rattle.answer_core.proofs.Complete.{complete}
 use Rattle.answer_core.proofs.answer.answer_alone.Goals as goal
 
@@ -26,3 +31,23 @@ returns-clause-complete g c = λ command is bytes site told text built no_read n
     complete command c.tell-status.result run.result.trace (g.I.Source.left c.args.input.now) left counted (Rose (g.I.Source.faults c.args.input.now) (g.I.Source.faults run.new.input)) (Rose (g.S.Sink.faults c.args.out) (g.S.Sink.faults run.result.out))
     (Rose (g.R.Sink.faults c.args.report.now) (g.R.Sink.faults c.tell-status.new.report)) bytes site saw (λ e. run.ensures.input (turned_input run.result.status c.tell-status.result turned e)) (λ e. run.ensures.output (turned_output run.result.status c.tell-status.result turned e)) c.tell-status.ensures.cause told text built
     no_read no_write no_report
+
+pub returns-clause-calm : goal.returns-clause-calm
+returns-clause-calm g c =
+    let run = c.answer_words-status in
+    calm_turned run.result.status c.tell-status.result (g.I.Source.faults run.new.input ≡ g.I.Source.faults c.args.input.now) (g.S.Sink.faults run.result.out ≡ g.S.Sink.faults c.args.out)
+    (g.R.Sink.faults c.tell-status.new.report ≡ g.R.Sink.faults c.args.report.now) c.tell-status.ensures.turned run.ensures.still run.ensures.calm c.tell-status.ensures.calm
+
+pub returns-clause-report : goal.returns-clause-report
+returns-clause-report g c =
+    let run = c.answer_words-status in
+    let command = command_of (map string_bytes c.args.words.now) in
+    let left = g.I.Source.left run.new.input in
+    let ended = Rose (g.I.Source.ends c.args.input.now) (g.I.Source.ends run.new.input) × IsAtEnd left in
+    let read_rose = Rose (g.I.Source.faults c.args.input.now) (g.I.Source.faults run.new.input) in
+    let write_rose = Rose (g.S.Sink.faults c.args.out) (g.S.Sink.faults run.result.out) in
+    let held = g.S.Sink.content c.args.out in
+    let holds = g.S.Sink.content run.result.out in
+    let shows = Shown command run.result.trace (g.I.Source.left c.args.input.now) left ended held holds read_rose write_rose in
+    reported_as (Is run.result.status) shows c.tell-status.result run.result.trace (g.R.Sink.content c.args.report.now) (g.R.Sink.content c.tell-status.new.report) (Rose (g.R.Sink.faults c.args.report.now) (g.R.Sink.faults c.tell-status.new.report))
+    (shown command run.result.trace (g.I.Source.left c.args.input.now) left ended held holds read_rose write_rose run.result.status (λ e. (run.ensures.words e).0) run.ensures.traversed run.ensures.written run.ensures.saw run.ensures.fits run.ensures.input run.ensures.output) c.tell-status.ensures.reported

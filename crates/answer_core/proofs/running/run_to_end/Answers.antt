@@ -1,9 +1,9 @@
-use Rattle.std.proofs.Common.{Some, sym, subst, ◌∙◌}
+use Rattle.std.proofs.Common.{Some, sym, subst, ◌∙◌, ◌≤◌, arith}
 use Rattle.outer_ports.specs.Causes.{Rose}
 use Rattle.answer_core.specs.Codes.{Fits}
 use Rattle.answer_core.specs.Headline.{Traversed, Written}
 use Rattle.answer_core.specs.Running.{asked}
-use Rattle.answer_core.proofs.Ends.{has_record, has_end, fits, is_output, wrote_prefix, of_web}
+use Rattle.answer_core.proofs.Ends.{has_record, has_end, fits, is_output, no_output, wrote_prefix, of_web}
 use Rattle.answer_core.proofs.running.run_to_end.Goals as goal
 
 pub returns-clause-traversed : goal.returns-clause-traversed
@@ -35,3 +35,15 @@ pub returns-clause-output : goal.returns-clause-output
 returns-clause-output g c = λ e.
     let rose = (c.run_alone-ran.ensures.output (is_output c.run_alone-ran.result c.finish-finished.result.trace (sym c.status_of-status.ensures ∙ e))).1 in
     subst (λ n. Rose n (g.S.Sink.faults c.finish-finished.result.out)) (sym c.requires.faults) (subst (λ n. Rose c.args.run.out.faults n) (sym c.finish-finished.ensures.out.1) rose)
+
+pub returns-clause-calm : goal.returns-clause-calm
+returns-clause-calm g c = λ n.
+    let ended = no_output c.run_alone-ran.result c.finish-finished.result.trace (λ e. n (c.status_of-status.ensures ∙ e)) in
+    c.finish-finished.ensures.out.1 ∙ (c.run_alone-ran.ensures.calm ended ∙ sym c.requires.faults)
+
+pub returns-clause-later : goal.returns-clause-later
+returns-clause-later g c =
+    let run = c.run_alone-ran.ensures.later in
+    let out = c.finish-finished.ensures.out.1 in
+    let faults = c.requires.faults in
+    omega arith

@@ -1,6 +1,5 @@
 use Rattle.std.proofs.Common.{sym, ap, ◌∙◌}
-use Rattle.std.specs.List.{list_all}
-use Rattle.plain_triples.specs.Pieces.{is_plain_iri, is_string_byte}
+use Rattle.plain_triples.specs.Pieces.{is_plain_iri}
 use Rattle.plain_triples.proofs.Ascii.{iri_utf8}
 use Rattle.plain_triples.proofs.pieces.iri_of.Goals as goal
 

@@ -1,0 +1,4 @@
+pub mod Documents
+pub mod Loading
+pub mod Locations
+pub mod Readings
