@@ -39,6 +39,25 @@ def tokens_case(v):
     return "x" + v["hex"], "".join("%s %d %d;" % tuple(token) for token in v["tokens"])
 
 
+def document_case(v):
+    """A document: its triples, each term in its N-Triples form, or its fault."""
+    if "fault" in v:
+        return "%s x%s" % (shown(v["doc"]), v["hex"]), "%s %d" % tuple(v["fault"])
+    return "%s x%s" % (shown(v["doc"]), v["hex"]), "".join(" ".join(map(shown, triple)) + ";" for triple in v["triples"])
+
+
+def query_tokens_case(v):
+    return shown(v["text"]), "".join("%s %d %d;" % tuple(token) for token in v["tokens"])
+
+
+def turtle_case(v):
+    if "fault" in v:
+        answer = "%s %d" % tuple(v["fault"])
+    else:
+        answer = shown("".join("%s %s %s .\n" % tuple(triple) for triple in v["triples"]))
+    return "%s x%s" % (shown(v["doc"]), v["hex"]), answer
+
+
 def site_case(v):
     return "x" + v["hex"], "bad %d" % v["bad"] if "bad" in v else "site x" + v["hex"]
 
@@ -169,14 +188,90 @@ def named_term(text, terms):
     return terms.literal(lexical, more, tag or None)
 
 
-KINDS = {"link": link_case, "iri": iri_case, "site": site_case, "turtle_tokens": tokens_case, "terms": terms_case, "values": values_case,
-         "expressions": expressions_case}
+QUERY_SIGNS = {"+": "plus", "-": "minus"}
+
+
+def query_expression(e):
+    """The words of an expression, as the oracle's vectors have it: what takes operands before them."""
+    kind = e[0]
+    if kind == "const":
+        return ["const", shown(e[1])]
+    if kind == "var":
+        return ["$%d" % e[1]]
+    if kind == "bound":
+        return ["bound.%d" % e[1]]
+    if kind in ("or", "and"):
+        return ["%s.%d" % (kind, len(e) - 1)] + [w for x in e[1:] for w in query_expression(x)]
+    if kind == "sum":
+        rest = [w for sign, x in e[2:] for w in [QUERY_SIGNS[sign]] + query_expression(x)]
+        return ["sum"] + query_expression(e[1]) + rest + ["end"]
+    if kind == "cmp":
+        return [COMPARISONS[e[1]]] + query_expression(e[2]) + query_expression(e[3])
+    if kind == "same":
+        return ["same"] + query_expression(e[1]) + query_expression(e[2])
+    if kind == "signed":
+        return [QUERY_SIGNS[e[1]]] + query_expression(e[2])
+    if kind == "call":
+        return [CALLS.get(e[1], e[1])] + query_expression(e[2])
+    return ["not"] + query_expression(e[1])
+
+
+def query_algebra(a):
+    if a[0] == "bgp":
+        spots = [["pattern"] + ["?%d" % s["var"] if isinstance(s, dict) else shown(s) for s in p] for p in a[1:]]
+        return ["bgp.%d" % (len(a) - 1)] + [w for p in spots for w in p]
+    if a[0] == "filter":
+        return ["filter"] + query_expression(a[1]) + query_algebra(a[2])
+    if a[0] == "leftjoin":
+        return ["optional"] + query_algebra(a[1]) + query_algebra(a[2]) + query_expression(a[3])
+    return [a[0]] + query_algebra(a[1]) + query_algebra(a[2])
+
+
+def query_case(v):
+    """A query as it is read without parts of the answer (no LIMIT and OFFSET), or its fault."""
+    from ltq_oracle import sparql
+    from unit_vectors import query_json
+    try:
+        q = query_json(sparql.read_query(v["text"], slices=False))
+    except sparql.QueryFault as e:
+        return shown(v["text"]), "%s %d" % (e.why, e.at)
+    words = [w for name in q["names"] for w in ("name", shown(name))] + ["width.%d" % q["width"]]
+    words += ["select.%d" % n for n in q["select"]] + ["distinct"] * q["distinct"] + query_algebra(q["body"])
+    words += [w for e, descending in q["order"] for w in ["desc" if descending else "asc"] + query_expression(e)]
+    return shown(v["text"]), " ".join(words)
+
+
+KINDS = {"link": link_case, "iri": iri_case, "site": site_case, "turtle_tokens": tokens_case, "turtle": turtle_case, "ntriples": document_case, "terms": terms_case,
+         "values": values_case, "expressions": expressions_case, "sparql_tokens": query_tokens_case, "sparql": query_case}
 
 # A kind whose cases the oracle gives with those of another kind.
 SOURCES = {"expressions": "values"}
 
 
+# Kinds whose cases the oracle makes of documents that it cannot always read itself: those are left out.
+QUERY_KINDS = ("sparql", "sparql_tokens")
+
+
+def query_cases(kind, seed, count):
+    import random
+    import unit_vectors as U
+    cases, made = [], getattr(U, "kind_" + kind)
+    features = [f for f in U.features_of("r20") if f != "body"]
+    for i in range(2 * count):
+        g = U.Gen(random.Random("%s/%d/%d" % (kind, seed, i)), features)
+        g.prefixes, g.base_dir, g.size = {}, "http://a.test/", 5
+        try:
+            cases.append(KINDS[kind](made(g)))
+        except U.ReadFault:
+            pass
+        if len(cases) == count:
+            break
+    return cases
+
+
 def cases_of(kind, seed, count):
+    if kind in QUERY_KINDS:
+        return query_cases(kind, int(seed), int(count))
     if kind == "algebra":
         from algebra_vectors import cases
         return cases(int(seed), int(count))

@@ -9,12 +9,14 @@
 mod algebra;
 mod algebra_case;
 mod cases;
+mod documents;
 mod expressions;
 mod iri;
 mod link;
 mod site;
 mod terms;
 mod tokens;
+mod turtle;
 
 use rdf_terms::Memory;
 use std::alloc::Global;
@@ -32,7 +34,10 @@ fn answer_of_kind(alloc: Global, kind: &str, line: &str) -> Result<String, Memor
         "forms" => terms::literal_forms(alloc, line),
         "values" => terms::values(alloc, line),
         "expressions" => expressions::answer(alloc, line),
+        "ntriples" => documents::ntriples(alloc, line),
         "turtle_tokens" => tokens::answer(alloc, line),
+        "sparql_tokens" => tokens::query_answer(alloc, line),
+        "turtle" => turtle::answer(alloc, line),
         _ => Ok(String::from_str(alloc, "no kind")?),
     }
 }
