@@ -6,10 +6,7 @@ use Rattle.rdf_terms.specs.declared.triple.Triple.{Triple}
 use Rattle.rdf_terms.specs.Lists.{add_once}
 use Rattle.rdf_terms.specs.Same.{same_triple}
 use Rattle.rdf_terms.proofs.Adding.{all_more, once_cases}
-use Rattle.rows_core.specs.declared.pattern.TriplePattern.{TriplePattern}
-use Rattle.rows_core.specs.Rows.{free, projected}
-use Rattle.rows_core.specs.Bindings.{extensions}
-use Rattle.algebra_core.specs.Graphs.{graph, holds, solutions}
+use Rattle.algebra_core.specs.Graphs.{graph, holds}
 
 pub graph_more : (xs : List Triple) (i : ℕ) (d : Triple) → i < length xs → graph (take (i + 1) xs) ≡ add_once same_triple (graph (take i xs)) (get_or xs i d)
 graph_more xs i d h = all_more same_triple [] xs i d h
@@ -26,7 +23,3 @@ map_more f xs i d h = ap (map f) (take_more xs i d h) ∙ map-append f (take i x
 
 pub flat_more : {X Y : Type 0} (f : X → List Y) (xs : List X) (i : ℕ) (d : X) → i < length xs → flat_map f (take (i + 1) xs) ≡ flat_map f (take i xs) ++ f (get_or xs i d)
 flat_more f xs i d h = ap (flat_map f) (take_more xs i d h) ∙ flat_map-append f (take i xs) (get_or xs i d ∷ []) ∙ ap (λ l. flat_map f (take i xs) ++ l) (append-nil (f (get_or xs i d)))
-
-pub one_pattern : (p : TriplePattern) (width : ℕ) (select : List ℕ) (triples : List Triple)
-    → solutions (p ∷ []) width select triples ≡ map (projected select) (flat_map (λ t. extensions p t (free width)) (graph triples))
-one_pattern p width select triples = ap (map (projected select)) (append-nil (flat_map (λ t. extensions p t (free width)) (graph triples)))

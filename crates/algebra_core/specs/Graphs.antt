@@ -1,11 +1,11 @@
 -- Basic graph patterns over a list of triples, after SPARQL 1.1 Query Language, section 18.3.
-use Rattle.std.specs.Prelude.{ℕ, Bool, List, [], ◌∷◌, map}
+use Rattle.std.specs.Prelude.{Bool, List, [], ◌∷◌}
 use Rattle.std.specs.List.{flat_map, list_any}
 use Rattle.rdf_terms.specs.declared.triple.Triple.{Triple}
 use Rattle.rdf_terms.specs.Lists.{add_all}
 use Rattle.rdf_terms.specs.Same.{same_triple}
 use Rattle.rows_core.specs.declared.pattern.TriplePattern.{TriplePattern}
-use Rattle.rows_core.specs.Rows.{Cells, free, projected}
+use Rattle.rows_core.specs.Rows.{Cells}
 use Rattle.rows_core.specs.Bindings.{extensions}
 
 -- the first of each equal elements, in order
@@ -24,11 +24,7 @@ graph triples = once same_triple triples
 abbrev pub extended : TriplePattern → List Triple → List Cells → List Cells
 extended p triples rows = flat_map (λ row. flat_map (λ t. extensions p t row) triples) rows
 
--- the rows extended by each pattern in turn; from the row that binds nothing on they are the pattern instance mappings of section 18.3.1, which the law `pattern_rows_are_instances` says
+-- the rows extended by each pattern in turn; from the row that binds nothing on, they are the pattern instance mappings of section 18.3.1, which the law `pattern_rows_are_instances` says
 abbrev pub all_extended : List TriplePattern → List Triple → List Cells → List Cells
 all_extended [] triples rows = rows
 all_extended (p ∷ ps) triples rows = all_extended ps triples (extended p triples rows)
-
--- the solutions of a basic graph pattern over the triples as a set, projected (section 18.5, Project); it begins with the one row that binds nothing
-abbrev pub solutions : List TriplePattern → ℕ → List ℕ → List Triple → List Cells
-solutions patterns width select triples = map (projected select) (all_extended patterns (graph triples) (free width ∷ []))

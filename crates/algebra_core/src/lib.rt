@@ -16,7 +16,6 @@ mod conditions;
 mod evaluation;
 mod graph;
 mod laws;
-mod one_pattern;
 mod ordering;
 mod query;
 #[cfg(test)]
@@ -28,5 +27,4 @@ pub use crate::laws::{
     left_join_is_join_and_rest, names_break_ties, pattern_rows_are_instances,
     rows_in_order_are_sorted, solutions_grow, solutions_ignore_order,
 };
-pub use crate::one_pattern::solutions_of_pattern;
 pub use crate::query::{Key, Query, is_monotone, patterns};

@@ -1,4 +1,4 @@
-use crate::{Algebra, Key, Query, evaluate_query, is_monotone, patterns, solutions_of_pattern};
+use crate::{Algebra, Key, Query, evaluate_query, is_monotone, patterns};
 use expr_eval::Expr;
 use rdf_terms::{Seq, Term, TextBuf, Triple};
 use rows_core::{Spot, TriplePattern};
@@ -14,23 +14,6 @@ fn triple(rt: &HostRuntime, s: &str, p: &str, o: &str) -> Result<Triple, Fail> {
         p: iri(rt, p)?,
         o: iri(rt, o)?,
     })
-}
-
-#[test]
-fn a_repeated_triple_gives_one_row(rt: HostRuntime) -> Result<(), Fail> {
-    let mut triples = Vec::new(rt.alloc());
-    triples.push(triple(&rt, "a", "p", "b")?)?;
-    triples.push(triple(&rt, "a", "q", "c")?)?;
-    triples.push(triple(&rt, "a", "p", "b")?)?;
-    let pattern = TriplePattern {
-        s: Spot::Var(0),
-        p: Spot::Term(iri(&rt, "p")?),
-        o: Spot::Var(1),
-    };
-    let rows = solutions_of_pattern(rt.alloc(), &pattern, 2, &[1], triples.as_slice())?;
-    assert_eq!(rt; rows.len(), 1);
-    assert!(rt; rows.as_slice()[0].cells() == [Some(iri(&rt, "b")?)].as_slice());
-    Ok(())
 }
 
 // The distinct subjects of triples whose predicate is p.

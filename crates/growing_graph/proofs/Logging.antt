@@ -36,13 +36,6 @@ inserted_old xs t b e h =
       | inr q ↦ absurd (h (e ∙ ap not q.0))
     ]
 
-pub add_there : (xs : List Triple) (t : Triple) → IsIn xs t → xs ≡ add_once same_triple xs t
-add_there xs t i =
-    elim (once_cases same_triple xs t) [
-      | inl p ↦ sym p.1
-      | inr q ↦ let z = (triple_in xs t).1 i in absurd (cc)
-    ]
-
 pub log_more : (known xs : List Triple) (i : ℕ) (d : Triple) → i < length xs → add_all same_triple known (take (i + 1) xs) ≡ add_once same_triple (add_all same_triple known (take i xs)) (get_or xs i d)
 log_more known xs i d h = all_more same_triple known xs i d h
 

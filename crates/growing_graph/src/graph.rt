@@ -84,19 +84,17 @@ impl Graph {
         self.set.truncate(len);
     }
 
-    #[tactic(auto, using(crate::proofs::Logging::add_there))]
+    // A copy shares the texts, so that one which isn't kept costs little.
     fn insert_copy(&mut self, triple: &Triple) -> Result<(), Memory>
         ensures ok { OnOk result (self.new ≡ add_once same_triple self.old triple.now) }
         ensures err { OnErr result (self.new ≡ self.old) }
     {
-        if !self.contains(triple) {
-            self.insert(triple.copy()?)?;
-        }
+        self.insert(triple.copy()?)?;
         Ok(())
     }
 
-    /// Appends the triples that aren't there, each once, in their order. It costs a hash of each
-    /// triple, and a copy of each that is new.
+    /// Appends the triples that aren't there, each once, in their order. It costs one hash and
+    /// one copy of each triple; a copy shares its texts.
     #[tactic(auto, using(crate::proofs::Logging::log_more, crate::proofs::Logging::take_log, crate::proofs::Logging::le_log))]
     pub fn extend(&mut self, triples: &[Triple]) -> Result<(), Memory>
         ensures ok { OnOk result (self.new ≡ add_all same_triple self.old triples.now) }

@@ -71,7 +71,7 @@ abbrev pub HasEnded : Record → ℕ → Type 0
 HasEnded r limit = (r.queued ≡ []) ⊎ (length r.entries ≡ limit)
 
 -- the links looked up are exactly the reachable ones, where paths don't go on from an unreached link;
--- for a told web, `out` is what each link comes to there (`outcome_of` of plain_documents, specs/Outcome.antt)
+-- for a told web, `out` is what each link comes to there (`outcome_of` of doc_reader, specs/Outcome.antt)
 pub record LooksUpReachable (out : Link → Option Outcome) (r : Record) (seeds : List Text) (rule : Rule) : Type 0 where
   pub only : (u : Text) → IsIn (entry_links r.entries) u → IsReachable (HasOutcome out) (Unreached r.entries) seeds rule u
   pub all : (u : Text) → IsReachable (HasOutcome out) (Unreached r.entries) seeds rule u → IsIn (entry_links r.entries) u

@@ -4,7 +4,7 @@
 //! `Web.antt`, edges and reachability in `Reach.antt`, and what a record says in `Record.antt`. The
 //! law of `laws.rt` ties them: a traversed, faithful record with nothing queued has looked up
 //! exactly the reachable links.
-//! Not here: which outcome an answer has (`plain_documents`), and the run itself (`traverse_core`).
+//! Not here: which outcome an answer has (`doc_reader`), and the run itself (`traverse_core`).
 //!
 //! Want of memory is `Memory` everywhere; after it every argument that was lent is as before.
 #![tactic(auto)]
