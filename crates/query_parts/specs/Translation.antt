@@ -1,5 +1,5 @@
 -- What the parts of a query make, after SPARQL 1.1, sections 4.1.2, 4.2.4 and 18.2.
-use Rattle.std.specs.Prelude.{ℕ, zero, suc, ◌+◌, ◌==◌, List, [], ◌∷◌, ◌++◌, Bool, true, false, ◌||◌, Option, Some, None, codes, length, filter, if◌then◌else◌}
+use Rattle.std.specs.Prelude.{ℕ, zero, suc, ◌+◌, ◌==◌, List, [], ◌∷◌, ◌++◌, Bool, true, false, ◌||◌, Some, None, codes, if◌then◌else◌}
 use Rattle.std.specs.List.{list_any}
 use Rattle.rdf_terms.specs.declared.term.Term.{Term}
 use Rattle.rdf_terms.specs.declared.term.Term.TheVariants.{Iri, Literal}
@@ -9,7 +9,7 @@ use Rattle.rows_core.specs.declared.pattern.TriplePattern.{TriplePattern}
 use Rattle.expr_eval.specs.declared.expr.Sign.{Sign}
 use Rattle.expr_eval.specs.declared.expr.Sign.TheVariants.{Plus, Minus}
 use Rattle.expr_eval.specs.declared.expr.Expr.{Expr, Constant, And}
-use Rattle.algebra_core.specs.declared.algebra.Algebra.{Algebra, Bgp, Join, Union, Filter, LeftJoin, fold-Algebra}
+use Rattle.algebra_core.specs.declared.algebra.Algebra.{Algebra, Bgp, Join, Filter, LeftJoin, fold-Algebra}
 use Rattle.algebra_core.specs.declared.algebra.Algebra.TheOpen.{Algebra-F}
 use Rattle.algebra_core.specs.Meaning.{patterns_in}
 

@@ -2,8 +2,8 @@
 //!
 //! Promise: each call gives what `specs/Translation.antt` says for its part, after SPARQL 1.1,
 //! section 18.2: triples that only filters separate are one basic graph pattern, joins are taken from
-//! the left, a join with no patterns is left out, the filters of a group stand round it, and those
-//! of an optional group are its condition.
+//! the left, a join with an empty basic graph pattern is left out, the filters of a group stand round
+//! it, and those of an optional group are its condition.
 //! Not here: which tokens make a part (`sparql_parser`), and what an expression or the algebra
 //! comes to (`expr_eval`, `algebra_core`).
 //!

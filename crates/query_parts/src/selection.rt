@@ -1,72 +1,110 @@
 //! Which variables are selected.
 
-ghost use Rattle.std.specs.Prelude.{◌≡◌, ◌≤◌, ◌<◌, ◌^◌, ◌==◌, ◌++◌, ◌∷◌, IfOk, OnOk, [], length};
+ghost use Rattle.std.specs.Prelude.{◌≡◌, ◌==◌, IfOk, OnOk, []};
 ghost use Rattle.std.specs.List.{list_any};
-ghost use Rattle.algebra_core.specs.Meaning.{patterns_in};
+ghost use Rattle.query_parts.specs.Held as held;
 ghost use Rattle.query_parts.specs.Translation as spec;
 
+use indexmap::IndexSet;
 use rdf_terms::Memory;
 use rows_core::{Spot, TriplePattern};
 use std::alloc::Global;
+use std::marker::Model;
 
-fn is_among(seen: &[u16], variable: u16) -> bool
-    ensures { result ≡ list_any (λ w. w == variable) seen.now }
-{
-    seen.iter().any(|w| *w == variable)
+/// Variables in the order of first appearance, each once.
+#[derive(Drop)]
+struct Variables {
+    set: IndexSet<u16>,
 }
 
-fn add_once(all: &mut Vec<u16>, variable: u16) -> Result<(), Memory>
-    ensures { OnOk result (all.new.items ≡ spec.with_once all.old.items variable) }
-{
-    if !is_among(all.as_slice(), variable) {
-        all.push(variable)?;
+impl Model for Variables {
+    ghost use Rattle.std.specs.Prelude.{List, ℕ};
+
+    ghost Value = { List ℕ };
+
+    ghost view = { λ v. v.set.keys };
+}
+
+impl Variables {
+    fn new(alloc: Global) -> Variables
+        ensures { result ≡ [] }
+    {
+        Variables {
+            set: IndexSet::new(alloc),
+        }
     }
-    Ok(())
+
+    #[tactic(auto, using(crate::proofs::Standing::inserted))]
+    fn insert(&mut self, variable: u16) -> Result<(), Memory>
+        ensures { OnOk result (self.new ≡ spec.with_once self.old variable) }
+    {
+        self.set.insert(variable)?;
+        Ok(())
+    }
+
+    fn insert_spot(&mut self, spot: &Spot) -> Result<(), Memory>
+        ensures { OnOk result (self.new ≡ held.with_spot self.old spot.now) }
+    {
+        match spot {
+            Spot::Term(_) => Ok(()),
+            Spot::Var(variable) => self.insert(*variable),
+        }
+    }
+
+    fn insert_pattern(&mut self, pattern: &TriplePattern) -> Result<(), Memory>
+        ensures { OnOk result (self.new ≡ held.with_pattern self.old pattern.now) }
+    {
+        self.insert_spot(&pattern.s)?;
+        self.insert_spot(&pattern.p)?;
+        self.insert_spot(&pattern.o)
+    }
+
+    #[tactic(auto, using(crate::proofs::Standing::any_turned))]
+    fn contains(&self, variable: u16) -> bool
+        ensures { result ≡ list_any (λ w. w == variable) self.now }
+    {
+        self.set.contains(&variable)
+    }
+
+    fn as_slice(&self) -> &[u16]
+        ensures { result.now ≡ self.now }
+    {
+        self.set.as_slice()
+    }
 }
 
-/// The variables as they are written, a repeated one once.
+/// The variables as they are written, a repeated one once. It costs a hash of each.
 pub fn once(alloc: Global, variables: &[u16]) -> Result<Vec<u16>, Memory>
     ensures { IfOk result (λ all. all.items ≡ spec.once variables.now) }
 {
-    let mut all = Vec::new(alloc);
+    let mut seen = Variables::new(alloc);
     for variable in variables {
-        add_once(&mut all, *variable)?;
+        seen.insert(*variable)?;
+    }
+    Ok(Vec::from_slice(alloc, seen.as_slice())?)
+}
+
+fn variables_in(alloc: Global, patterns: &[TriplePattern]) -> Result<Variables, Memory>
+    ensures { IfOk result (λ all. all ≡ held.variables_in patterns.now) }
+{
+    let mut all = Variables::new(alloc);
+    for pattern in patterns {
+        all.insert_pattern(pattern)?;
     }
     Ok(all)
 }
 
-fn is_variable(variable: u16, spot: &Spot) -> bool
-    ensures { result ≡ spec.is_variable variable spot.now }
+fn add_standing(all: &mut Vec<u16>, variable: u16, standing: &Variables) -> Result<(), Memory>
+    ensures { OnOk result (all.new.items ≡ held.with_member all.old.items variable standing.now) }
 {
-    match spot {
-        Spot::Term(_) => false,
-        Spot::Var(other) => *other == variable,
-    }
-}
-
-fn has_variable(variable: u16, pattern: &TriplePattern) -> bool
-    ensures { result ≡ spec.has_variable variable pattern.now }
-{
-    is_variable(variable, &pattern.s)
-        || (is_variable(variable, &pattern.p) || is_variable(variable, &pattern.o))
-}
-
-fn stands_in(variable: u16, patterns: &[TriplePattern]) -> bool
-    ensures { result ≡ spec.stands_in variable patterns.now }
-{
-    patterns.iter().any(|p| has_variable(variable, p))
-}
-
-fn add_standing(all: &mut Vec<u16>, variable: u16, patterns: &[TriplePattern]) -> Result<(), Memory>
-    ensures { OnOk result (all.new.items ≡ spec.with_standing all.old.items variable patterns.now) }
-{
-    if stands_in(variable, patterns) {
+    if standing.contains(variable) {
         all.push(variable)?;
     }
     Ok(())
 }
 
-/// The named variables that stand in one of the patterns, by their numbers.
+/// The named variables that stand in one of the patterns, by their numbers. It costs a hash of each
+/// variable in the patterns, and one of each number.
 pub fn selected_by_star(
     alloc: Global,
     names: u16,
@@ -74,9 +112,10 @@ pub fn selected_by_star(
 ) -> Result<Vec<u16>, Memory>
     ensures { IfOk result (λ all. all.items ≡ spec.standing names patterns.now) }
 {
+    let standing = variables_in(alloc, patterns)?;
     let mut all = Vec::new(alloc);
     for variable in 0..names {
-        add_standing(&mut all, variable, patterns)?;
+        add_standing(&mut all, variable, &standing)?;
     }
     Ok(all)
 }

@@ -3,4 +3,4 @@ use Rattle.query_parts.specs.Translation.{once_from, once}
 use Rattle.query_parts.proofs.selection.once.Given as goal
 
 abbrev pub invariant-loop-variable : goal.invariant-loop-variable
-invariant-loop-variable l = once_from l.all.items (drop l.variable-index l.variables) ≡ once l.variables
+invariant-loop-variable l = once_from l.seen (drop l.variable-index l.variables) ≡ once l.variables
