@@ -1,0 +1,9 @@
+pub mod Fitting
+pub mod Here
+pub mod Nothing
+pub mod Numbers
+pub mod Sound
+pub mod Told
+pub mod Unique
+pub mod Valid
+pub mod Whole

@@ -1,0 +1,97 @@
+-- What a text is answered: its query, or its first fault (docs/FORMATS.md, "Queries").
+use Rattle.std.specs.Prelude.{◌≡◌, ℕ, ◌+◌, List, [], length, Bool, true, false, nat_lt, Option, Some, None, Result, Ok, Err, min, unwrap_or}
+use Rattle.grammar_engine.specs.Engine.{Reads, Done, Not}
+use Rattle.algebra_core.specs.declared.algebra.Algebra.{Algebra}
+use Rattle.algebra_core.specs.declared.query.Query.{Query}
+use Rattle.query_parts.specs.Translation.{once, selected_by_star}
+use Rattle.sparql_lexer.specs.declared.token.QueryToken.{QueryToken}
+use Rattle.sparql_lexer.specs.Tokens.{QueryTokens}
+use Rattle.sparql_scan.specs.declared.fault.Fault.{Fault}
+use Rattle.sparql_scan.specs.declared.fault.Fault.TheVariants as scanned
+use Rattle.sparql_scan.specs.declared.kind.Token.{Token}
+use Rattle.sparql_scan.specs.Names.{most_names}
+use Rattle.sparql_scan.specs.Scan.{names_from, scanning}
+use Rattle.sparql_parser.specs.declared.fault.QueryFault.{QueryFault}
+use Rattle.sparql_parser.specs.declared.fault.QueryFault.TheVariants as faults
+use Rattle.sparql_parser.specs.Grammar.{E, QueryUnit, Request, body, sparql}
+
+-- how many bytes a query may have
+abbrev pub most_bytes : ℕ
+most_bytes = 65536
+
+-- ---- translation (SPARQL 1.1, section 18.2.4.4 for the variables)
+
+-- the variables as they are written, a repeated one once; or for `*` those that stand in a triple pattern
+abbrev pub selected : ℕ → Option (List ℕ) → Algebra → List ℕ
+selected names (Some all) a = once all
+selected names None a = selected_by_star names a
+
+-- the query of a request, with the names of its variables, and their number with that of blank nodes
+abbrev pub query : List (List ℕ) → ℕ → Request → Query
+query names width r =
+    record {
+      names = names;
+      width = width;
+      select = selected (length names) r.select r.body;
+      distinct = r.distinct;
+      body = r.body;
+      order = r.order;
+    }
+
+abbrev pub fault : Fault → QueryFault
+fault (scanned.Syntax at) = faults.Syntax at
+fault (scanned.Unsupported at) = faults.Unsupported at
+fault (scanned.Deep at) = faults.Deep at
+
+-- the query, or the fault, of what the grammar reads
+abbrev pub answer_by : List (List ℕ) → ℕ → E QueryUnit → Result Query QueryFault
+answer_by names width (Done r rest) = Ok (query names width r)
+answer_by names width (Not f) = Err (fault f)
+
+-- ---- of a text
+
+-- the variables' names, and their number with that of blank nodes
+abbrev pub names_of : List ℕ → List QueryToken → List (List ℕ)
+names_of bytes ts = names_from [] bytes ts
+
+abbrev pub width_of : List ℕ → List QueryToken → ℕ
+width_of bytes ts = min (length (names_of bytes ts) + (scanning bytes ts).blanks) most_names
+
+-- the tokens up to the first that nothing may take, and the fault there: Syntax at the text's length where there is none
+abbrev pub tokens_of : List ℕ → List QueryToken → List Token
+tokens_of bytes ts = (scanning bytes ts).tokens
+
+abbrev pub stop_of : List ℕ → List QueryToken → Fault
+stop_of bytes ts = unwrap_or (scanning bytes ts).stop (scanned.Syntax (length bytes))
+
+-- the answer is that of the grammar, which reads these tokens of the text: where one does not fit before the first that nothing may take, the fault is there
+abbrev pub IsRead : List ℕ → List QueryToken → Result Query QueryFault → Type 0
+IsRead bytes ts a =
+    (o : E QueryUnit) × Reads (sparql (stop_of bytes ts)) QueryUnit (body QueryUnit) (tokens_of bytes ts) o × (a ≡ answer_by (names_of bytes ts) (width_of bytes ts) o)
+
+-- the answer to a text that is not too long
+abbrev pub IsShortAnswer : List ℕ → Result Query QueryFault → Type 0
+IsShortAnswer bytes a = (ts : List QueryToken) × QueryTokens bytes ts × IsRead bytes ts a
+
+abbrev pub is_answer_by : Bool → List ℕ → Result Query QueryFault → Type 0
+is_answer_by true bytes a = a ≡ Err faults.LongQuery
+is_answer_by false bytes a = IsShortAnswer bytes a
+
+-- the answer to the text; that it is too long comes before all else
+abbrev pub IsAnswer : List ℕ → Result Query QueryFault → Type 0
+IsAnswer bytes a = is_answer_by (nat_lt most_bytes (length bytes)) bytes a
+
+-- ---- what the code gives
+
+-- nothing is said where memory ran out
+abbrev pub ToldFault : (Result Query QueryFault → Type 0) → QueryFault → Type 0
+ToldFault P (faults.Syntax at) = P (Err (faults.Syntax at))
+ToldFault P (faults.Unsupported at) = P (Err (faults.Unsupported at))
+ToldFault P (faults.Deep at) = P (Err (faults.Deep at))
+ToldFault P faults.LongQuery = P (Err faults.LongQuery)
+ToldFault P faults.Memory = Unit {0}
+
+-- the result is such an answer, unless memory ran out
+abbrev pub IsTold : (Result Query QueryFault → Type 0) → Result Query QueryFault → Type 0
+IsTold P (Ok q) = P (Ok q)
+IsTold P (Err e) = ToldFault P e

@@ -1,0 +1,604 @@
+-- The grammar of the profile, part by part, in the names of SPARQL 1.1, section 19.8 (docs/FORMATS.md, "Queries").
+-- A part that repeats something takes what stands before it, so its value is that of all.
+use Rattle.std.specs.Prelude.{ℕ, List, [], ◌∷◌, ◌++◌, Bool, true, false, Option, Some, None}
+use Rattle.grammar_engine.specs.Engine.{Prog, Give, Misfit, Skip, Look, Call, Outcome, Grammar, parse, go}
+use Rattle.rdf_terms.specs.declared.term.Term.{Term}
+use Rattle.rdf_terms.specs.declared.term.Term.TheVariants.{Iri}
+use Rattle.rows_core.specs.declared.pattern.Spot.{Spot}
+use Rattle.rows_core.specs.declared.pattern.Spot.TheVariants as spots
+use Rattle.rows_core.specs.declared.pattern.TriplePattern.{TriplePattern}
+use Rattle.expr_eval.specs.declared.expr.Sign.{Sign}
+use Rattle.expr_eval.specs.declared.expr.Sign.TheVariants as signs
+use Rattle.expr_eval.specs.declared.expr.Expr.{Expr, Constant, Or, And, Compare, Sum, Signed, Bound, SameTerm}
+use Rattle.expr_eval.specs.declared.expr.Expr.{Var as Variable, Not as Negation, Call as Application}
+use Rattle.algebra_core.specs.declared.algebra.Algebra.{Algebra, Union}
+use Rattle.algebra_core.specs.declared.query.Key.{Key}
+use Rattle.query_parts.specs.Translation.{type_iri, plain_text, tagged_text, typed_text, number, signed_number, boolean, Stage, empty_stage, Grouped, closed, whole, with_filter, with_triples, with_group, with_option}
+use Rattle.sparql_scan.specs.declared.fault.Fault.{Fault}
+use Rattle.sparql_scan.specs.declared.fault.Fault.TheVariants.{Syntax, Unsupported}
+use Rattle.sparql_scan.specs.declared.kind.Kind.{Kind}
+use Rattle.sparql_scan.specs.declared.kind.Kind.TheVariants as kinds
+use Rattle.sparql_scan.specs.declared.kind.Token.{Token}
+use Rattle.sparql_parser.specs.declared.tokens.Terminal.{Terminal}
+use Rattle.sparql_parser.specs.declared.tokens.Terminal.TheVariants as terminals
+
+-- ---- parts and their values
+
+pub data Part : Type 0 where
+  -- the whole, from a declaration or SELECT on (rules 1, 2 and 4)
+  QueryUnit : Part
+  -- behind SELECT (7), and behind DISTINCT
+  SelectQuery : Part
+  SelectBody : (distinct : Bool) → Part
+  -- which variables (9)
+  SelectClause : Part
+  Variables : (before : List ℕ) → Part
+  -- behind the pattern (18), and behind ORDER BY (23, 24)
+  SolutionModifier : Part
+  OrderClause : Part
+  MoreConditions : (before : List Key) → Part
+  OrderCondition : Part
+  -- a group (53, 54), and what is behind its brace
+  GroupGraphPattern : Part
+  GroupGraphPatternSub : Part
+  -- where triples may come, behind them, and behind another element
+  TriplesOrElements : (s : Stage) → Part
+  Elements : (s : Stage) → Part
+  AfterElement : (s : Stage) → Part
+  -- behind FILTER (68), behind OPTIONAL (57), and behind the brace of a group in a group
+  Filter : (s : Stage) → Part
+  OptionalGraphPattern : (s : Stage) → Part
+  GroupElement : (s : Stage) → Part
+  -- a group, and those that UNION adds (67)
+  GroupOrUnionGraphPattern : Part
+  -- behind the first group of a union (67)
+  MoreGroups : (left : Algebra) → Part
+  -- the condition of a filter (69)
+  Constraint : Part
+  -- triples (55, 75)
+  TriplesBlock : (before : List TriplePattern) → Part
+  MoreTriples : (before : List TriplePattern) → Part
+  TriplesSameSubject : (before : List TriplePattern) → Part
+  -- behind the bracket of a subject (99)
+  BlankSubject : (n : ℕ) → (before : List TriplePattern) → Part
+  -- verbs with their objects (77, 78)
+  PropertyList : (s : Spot) → (before : List TriplePattern) → Part
+  MoreProperties : (s : Spot) → (before : List TriplePattern) → Part
+  VerbObjects : (s : Spot) → (before : List TriplePattern) → Part
+  -- objects (79, 80)
+  ObjectList : (s p : Spot) → (before : List TriplePattern) → Part
+  MoreObjects : (s p : Spot) → (before : List TriplePattern) → Part
+  Object : (before : List TriplePattern) → Part
+  -- behind the bracket of an object (99)
+  BlankObject : (n : ℕ) → (before : List TriplePattern) → Part
+  -- a variable, or a term without a bracket (106, 109)
+  VarOrTerm : Part
+  -- behind a sign (130)
+  SignedNumber : (sign : Sign) → Part
+  -- behind a string (129)
+  RdfLiteral : (text : List ℕ) → Part
+  -- expressions (110 to 121)
+  Expression : Part
+  -- behind the first "||", and behind another operand
+  OrOperands : (first : Expr) → Part
+  MoreOr : (before : List Expr) → Part
+  ConditionalAnd : Part
+  AndOperands : (first : Expr) → Part
+  MoreAnd : (before : List Expr) → Part
+  Relational : Part
+  Additive : Part
+  -- behind the first sign of a sum, and behind another operand
+  Operands : (sign : Sign) → Part
+  MoreOperands : (before : List (Sign × Expr)) → Part
+  Unary : Part
+  Primary : Part
+  Bracketed : Part
+  -- behind BOUND, and behind SAMETERM
+  BoundVariable : Part
+  TermPair : Part
+
+-- what a query says, but for its variables' names; a select of none is that of `*`
+pub record Request : Type 0 where
+  pub distinct : Bool
+  pub select : Option (List ℕ)
+  pub body : Algebra
+  pub order : List Key
+
+abbrev pub Value : Part → Type 0
+Value QueryUnit = Request
+Value SelectQuery = Request
+Value (SelectBody distinct) = Request
+Value SelectClause = Option (List ℕ)
+Value (Variables before) = List ℕ
+Value SolutionModifier = List Key
+Value OrderClause = List Key
+Value (MoreConditions before) = List Key
+Value OrderCondition = Key
+Value GroupGraphPattern = Grouped
+Value GroupGraphPatternSub = Grouped
+Value (TriplesOrElements s) = Grouped
+Value (Elements s) = Grouped
+Value (AfterElement s) = Grouped
+Value (Filter s) = Grouped
+Value (OptionalGraphPattern s) = Grouped
+Value (GroupElement s) = Grouped
+Value GroupOrUnionGraphPattern = Algebra
+Value (MoreGroups left) = Algebra
+Value Constraint = Expr
+Value (TriplesBlock before) = List TriplePattern
+Value (MoreTriples before) = List TriplePattern
+Value (TriplesSameSubject before) = List TriplePattern
+Value (BlankSubject n before) = List TriplePattern
+Value (PropertyList s before) = List TriplePattern
+Value (MoreProperties s before) = List TriplePattern
+Value (VerbObjects s before) = List TriplePattern
+Value (ObjectList s p before) = List TriplePattern
+Value (MoreObjects s p before) = List TriplePattern
+Value (Object before) = List TriplePattern × Spot
+Value (BlankObject n before) = List TriplePattern × Spot
+Value VarOrTerm = Spot
+Value (SignedNumber sign) = Spot
+Value (RdfLiteral text) = Term
+Value Expression = Expr
+Value (OrOperands first) = Expr
+Value (MoreOr before) = Expr
+Value ConditionalAnd = Expr
+Value (AndOperands first) = Expr
+Value (MoreAnd before) = Expr
+Value Relational = Expr
+Value Additive = Expr
+Value (Operands sign) = List (Sign × Expr)
+Value (MoreOperands before) = List (Sign × Expr)
+Value Unary = Expr
+Value Primary = Expr
+Value Bracketed = Expr
+Value BoundVariable = Expr
+Value TermPair = Expr
+
+abbrev pub G : Type 0 → Type 0
+G A = Prog Token Part Value A
+
+-- ---- words of the grammar
+
+-- no token is as one that nothing begins with
+abbrev pub kind_of : Option Token → Kind
+kind_of None = kinds.Unknown
+kind_of (Some t) = t.kind
+
+-- by the kind of the next token, which stays
+abbrev pub by : {A : Type 0} → (Kind → G A) → G A
+by f = Look (λ x. f (kind_of x))
+
+abbrev pub need_by : {A : Type 0} → Bool → G A → G A
+need_by true p = Skip p
+need_by false p = Misfit
+
+abbrev pub choose : {A : Type 0} → Bool → G A → G A → G A
+choose true p q = p
+choose false p q = q
+
+-- the value of a part is the value
+abbrev pub through : (q : Part) → G (Value q)
+through q = Call q (λ v. Give v)
+
+-- the kinds that stand for one keyword or mark, or for one class of tokens
+abbrev pub is_iri_ref : Kind → Bool
+is_iri_ref (kinds.IriRef iri) = true
+is_iri_ref _ = false
+
+abbrev pub is_namespace : Kind → Bool
+is_namespace kinds.Namespace = true
+is_namespace _ = false
+
+abbrev pub is_distinct : Kind → Bool
+is_distinct kinds.Distinct = true
+is_distinct _ = false
+
+abbrev pub is_where : Kind → Bool
+is_where kinds.Where = true
+is_where _ = false
+
+abbrev pub is_order : Kind → Bool
+is_order kinds.Order = true
+is_order _ = false
+
+abbrev pub is_by : Kind → Bool
+is_by kinds.By = true
+is_by _ = false
+
+abbrev pub is_end : Kind → Bool
+is_end kinds.End = true
+is_end _ = false
+
+abbrev pub is_open_brace : Kind → Bool
+is_open_brace kinds.OpenBrace = true
+is_open_brace _ = false
+
+abbrev pub is_union : Kind → Bool
+is_union kinds.Union = true
+is_union _ = false
+
+abbrev pub is_dot : Kind → Bool
+is_dot kinds.Dot = true
+is_dot _ = false
+
+abbrev pub is_semicolon : Kind → Bool
+is_semicolon kinds.Semicolon = true
+is_semicolon _ = false
+
+abbrev pub is_comma : Kind → Bool
+is_comma kinds.Comma = true
+is_comma _ = false
+
+abbrev pub is_shut_square : Kind → Bool
+is_shut_square kinds.ShutSquare = true
+is_shut_square _ = false
+
+abbrev pub is_open_paren : Kind → Bool
+is_open_paren kinds.OpenParen = true
+is_open_paren _ = false
+
+abbrev pub is_shut_paren : Kind → Bool
+is_shut_paren kinds.ShutParen = true
+is_shut_paren _ = false
+
+abbrev pub is_or : Kind → Bool
+is_or kinds.Or = true
+is_or _ = false
+
+abbrev pub is_and : Kind → Bool
+is_and kinds.And = true
+is_and _ = false
+
+-- the kind is that terminal
+unfoldable pub is_terminal : Terminal → Kind → Bool
+is_terminal terminals.IriRef k = is_iri_ref k
+is_terminal terminals.Namespace k = is_namespace k
+is_terminal terminals.Distinct k = is_distinct k
+is_terminal terminals.Where k = is_where k
+is_terminal terminals.Order k = is_order k
+is_terminal terminals.By k = is_by k
+is_terminal terminals.End k = is_end k
+is_terminal terminals.OpenBrace k = is_open_brace k
+is_terminal terminals.Union k = is_union k
+is_terminal terminals.Dot k = is_dot k
+is_terminal terminals.Semicolon k = is_semicolon k
+is_terminal terminals.Comma k = is_comma k
+is_terminal terminals.ShutSquare k = is_shut_square k
+is_terminal terminals.OpenParen k = is_open_paren k
+is_terminal terminals.ShutParen k = is_shut_paren k
+is_terminal terminals.Or k = is_or k
+is_terminal terminals.And k = is_and k
+
+-- the next token must be this one, and is left behind
+abbrev pub need : {A : Type 0} → Terminal → G A → G A
+need terminal p = by (λ k. need_by (is_terminal terminal k) p)
+
+-- one or the other way, by the next token, which stays
+abbrev pub if_next : {A : Type 0} → (Kind → Bool) → G A → G A → G A
+if_next test p q = by (λ k. choose (test k) p q)
+
+-- ---- the query
+
+-- query = ( BASE IRIREF | PREFIX NS IRIREF )* SELECT ..
+abbrev pub query_by : Kind → G Request
+query_by kinds.Base = Skip (need terminals.IriRef (through QueryUnit))
+query_by kinds.Prefix = Skip (need terminals.Namespace (need terminals.IriRef (through QueryUnit)))
+query_by kinds.Select = Skip (through SelectQuery)
+query_by _ = Misfit
+
+-- .. group order?
+abbrev pub where_by : Bool → Option (List ℕ) → G Request
+where_by distinct select =
+    Call GroupGraphPattern (λ g. Call SolutionModifier (λ order. Give (record { distinct = distinct; select = select; body = whole g; order = order })))
+
+-- Var+ | "*"
+abbrev pub select_by : Kind → G (Option (List ℕ))
+select_by (kinds.Var n) = Call (Variables []) (λ all. Give (Some all))
+select_by kinds.Star = Skip (Give None)
+select_by _ = Misfit
+
+abbrev pub variables_by : List ℕ → Kind → G (List ℕ)
+variables_by before (kinds.Var n) = Skip (through (Variables (before ++ n ∷ [])))
+variables_by before _ = Give before
+
+abbrev pub key : Expr → Bool → Key
+key e descending = record { expr = e; descending = descending }
+
+-- key = Var | ( ASC | DESC ) "(" expr ")" | "(" expr ")"
+abbrev pub condition_by : Kind → G Key
+condition_by (kinds.Var n) = Skip (Give (key (Variable n) false))
+condition_by kinds.OpenParen = Call Bracketed (λ e. Give (key e false))
+condition_by kinds.Asc = Skip (Call Bracketed (λ e. Give (key e false)))
+condition_by kinds.Desc = Skip (Call Bracketed (λ e. Give (key e true)))
+condition_by _ = Misfit
+
+abbrev pub begins_condition : Kind → Bool
+begins_condition (kinds.Var n) = true
+begins_condition kinds.OpenParen = true
+begins_condition kinds.Asc = true
+begins_condition kinds.Desc = true
+begins_condition _ = false
+
+-- ---- groups
+
+-- other = group ( UNION group )* | OPTIONAL group, and filter = FILTER ( "(" expr ")" | call )
+abbrev pub element_by : Stage → Kind → G Grouped
+element_by s kinds.ShutBrace = Skip (Give (closed s))
+element_by s kinds.Filter = Skip (through (Filter s))
+element_by s kinds.Optional = Skip (through (OptionalGraphPattern s))
+element_by s kinds.OpenBrace = Skip (through (GroupElement s))
+element_by s _ = Misfit
+
+abbrev pub constraint_by : Kind → G Expr
+constraint_by kinds.OpenParen = through Bracketed
+constraint_by kinds.Bound = through Primary
+constraint_by kinds.SameTerm = through Primary
+constraint_by (kinds.Function f) = through Primary
+constraint_by _ = Misfit
+
+-- ---- triples
+
+abbrev pub triple : Spot → Spot → Spot → TriplePattern
+triple s p o = record { s = s; p = p; o = o }
+
+-- verb = Var | iri | "a"
+abbrev pub begins_verb : Kind → Bool
+begins_verb (kinds.Var n) = true
+begins_verb (kinds.IriRef iri) = true
+begins_verb (kinds.Name iri) = true
+begins_verb kinds.A = true
+begins_verb _ = false
+
+abbrev pub verb_by : Spot → List TriplePattern → Kind → G (List TriplePattern)
+verb_by s before (kinds.Var n) = Skip (through (ObjectList s (spots.Var n) before))
+verb_by s before (kinds.IriRef iri) = Skip (through (ObjectList s (spots.Term (Iri iri)) before))
+verb_by s before (kinds.Name iri) = Skip (through (ObjectList s (spots.Term (Iri iri)) before))
+verb_by s before kinds.A = Skip (through (ObjectList s (spots.Term type_iri) before))
+verb_by s before _ = Misfit
+
+-- what begins a subject or an object
+abbrev pub begins_term : Kind → Bool
+begins_term (kinds.Var n) = true
+begins_term (kinds.IriRef iri) = true
+begins_term (kinds.Name iri) = true
+begins_term (kinds.Label n) = true
+begins_term (kinds.OpenSquare n) = true
+begins_term (kinds.Text text) = true
+begins_term (kinds.Number datatype lexical touches) = true
+begins_term (kinds.Sign sign) = true
+begins_term (kinds.Boolean truth) = true
+begins_term _ = false
+
+-- behind a sign: a number that touches it
+abbrev pub signed_by : Sign → Kind → G Spot
+signed_by sign (kinds.Number datatype lexical touches) = need_by touches (Give (spots.Term (signed_number sign datatype lexical)))
+signed_by sign _ = Misfit
+
+-- term = Var | iri | literal | label, where literal = string .. | sign? number | TRUE | FALSE
+abbrev pub term_by : Kind → G Spot
+term_by (kinds.Var n) = Skip (Give (spots.Var n))
+term_by (kinds.IriRef iri) = Skip (Give (spots.Term (Iri iri)))
+term_by (kinds.Name iri) = Skip (Give (spots.Term (Iri iri)))
+term_by (kinds.Label n) = Skip (Give (spots.Var n))
+term_by (kinds.Text text) = Skip (Call (RdfLiteral text) (λ t. Give (spots.Term t)))
+term_by (kinds.Number datatype lexical touches) = Skip (Give (spots.Term (number datatype lexical)))
+term_by (kinds.Sign sign) = Skip (through (SignedNumber sign))
+term_by (kinds.Boolean truth) = Skip (Give (spots.Term (boolean truth)))
+term_by _ = Misfit
+
+abbrev pub datatype_by : List ℕ → Kind → G Term
+datatype_by text (kinds.IriRef iri) = Skip (Give (typed_text text iri))
+datatype_by text (kinds.Name iri) = Skip (Give (typed_text text iri))
+datatype_by text _ = Misfit
+
+-- string ( tag | "^^" iri )?
+abbrev pub literal_by : List ℕ → Kind → G Term
+literal_by text (kinds.Tag tag) = Skip (Give (tagged_text text tag))
+literal_by text kinds.Carets = Skip (by (datatype_by text))
+literal_by text _ = Give (plain_text text)
+
+-- object = term | "[" poList "]" | "[" "]"
+abbrev pub blank_object : Spot → List TriplePattern → G (List TriplePattern × Spot)
+blank_object b before =
+    if_next (is_terminal terminals.ShutSquare) (Skip (Give (before, b))) (Call (PropertyList b before) (λ ps. need terminals.ShutSquare (Give (ps, b))))
+
+abbrev pub object_by : List TriplePattern → Kind → G (List TriplePattern × Spot)
+object_by before (kinds.OpenSquare n) = Skip (through (BlankObject n before))
+object_by before _ = Call VarOrTerm (λ o. Give (before, o))
+
+-- same = term poList | "[" poList "]" poList? | "[" "]" poList
+abbrev pub blank_subject : Spot → List TriplePattern → G (List TriplePattern)
+blank_subject b before =
+    if_next (is_terminal terminals.ShutSquare) (Skip (through (PropertyList b before)))
+    (Call (PropertyList b before) (λ ps. need terminals.ShutSquare (if_next begins_verb (through (PropertyList b ps)) (Give ps))))
+
+abbrev pub subject_by : List TriplePattern → Kind → G (List TriplePattern)
+subject_by before (kinds.OpenSquare n) = Skip (through (BlankSubject n before))
+subject_by before _ = Call VarOrTerm (λ s. through (PropertyList s before))
+
+-- ---- expressions
+
+abbrev pub relational_by : Expr → Kind → G Expr
+relational_by a (kinds.Compare op) = Skip (Call Additive (λ b. Give (Compare op a b)))
+relational_by a _ = Give a
+
+abbrev pub additive_by : Expr → Kind → G Expr
+additive_by first (kinds.Sign sign) = Skip (Call (Operands sign) (λ rest. Give (Sum first rest)))
+additive_by first _ = Give first
+
+abbrev pub more_operands_by : List (Sign × Expr) → Kind → G (List (Sign × Expr))
+more_operands_by before (kinds.Sign sign) = Skip (Call Unary (λ e. through (MoreOperands (before ++ (sign, e) ∷ []))))
+more_operands_by before _ = Give before
+
+-- unary = ( "!" | "+" | "-" )? prim
+abbrev pub unary_by : Kind → G Expr
+unary_by kinds.Bang = Skip (Call Primary (λ e. Give (Negation e)))
+unary_by (kinds.Sign sign) = Skip (Call Primary (λ e. Give (Signed sign e)))
+unary_by _ = through Primary
+
+abbrev pub bound_by : Kind → G Expr
+bound_by (kinds.Var n) = Skip (need terminals.ShutParen (Give (Bound n)))
+bound_by _ = Misfit
+
+-- prim = "(" expr ")" | call | iri | string .. | number | TRUE | FALSE | Var
+abbrev pub primary_by : Kind → G Expr
+primary_by kinds.OpenParen = through Bracketed
+primary_by kinds.Bound = Skip (through BoundVariable)
+primary_by kinds.SameTerm = Skip (through TermPair)
+primary_by (kinds.Function f) = Skip (Call Bracketed (λ e. Give (Application f e)))
+primary_by (kinds.IriRef iri) = Skip (Give (Constant (Iri iri)))
+primary_by (kinds.Name iri) = Skip (Give (Constant (Iri iri)))
+primary_by (kinds.Text text) = Skip (Call (RdfLiteral text) (λ t. Give (Constant t)))
+primary_by (kinds.Number datatype lexical touches) = Skip (Give (Constant (number datatype lexical)))
+primary_by (kinds.Boolean truth) = Skip (Give (Constant (boolean truth)))
+primary_by (kinds.Var n) = Skip (Give (Variable n))
+primary_by _ = Misfit
+
+-- ---- all parts
+
+abbrev pub body : (q : Part) → G (Value q)
+body QueryUnit = by query_by
+-- .. DISTINCT? ( Var+ | "*" ) WHERE? group order?
+body SelectQuery = if_next (is_terminal terminals.Distinct) (Skip (through (SelectBody true))) (through (SelectBody false))
+body (SelectBody distinct) = Call SelectClause (λ select. if_next (is_terminal terminals.Where) (Skip (where_by distinct select)) (where_by distinct select))
+body SelectClause = by select_by
+body (Variables before) = by (variables_by before)
+-- order = ORDER BY key+, and the end
+body SolutionModifier =
+    if_next (is_terminal terminals.Order) (Skip (need terminals.By (Call OrderClause (λ keys. need terminals.End (Give keys))))) (need terminals.End (Give []))
+body OrderClause = Call OrderCondition (λ k. through (MoreConditions (k ∷ [])))
+body (MoreConditions before) = if_next begins_condition (Call OrderCondition (λ k. through (MoreConditions (before ++ k ∷ [])))) (Give before)
+body OrderCondition = by condition_by
+-- group = "{" triples? ( ( other | filter ) "."? triples? )* "}"
+body GroupGraphPattern = need terminals.OpenBrace (through GroupGraphPatternSub)
+body GroupGraphPatternSub = through (TriplesOrElements empty_stage)
+body (TriplesOrElements s) = if_next begins_term (Call (TriplesBlock s.patterns) (λ ps. through (Elements (with_triples s ps)))) (through (Elements s))
+body (Elements s) = by (element_by s)
+body (AfterElement s) = if_next (is_terminal terminals.Dot) (Skip (through (TriplesOrElements s))) (through (TriplesOrElements s))
+body (Filter s) = Call Constraint (λ e. through (AfterElement (with_filter s e)))
+body (OptionalGraphPattern s) = Call GroupGraphPattern (λ g. through (AfterElement (with_option s g)))
+body (GroupElement s) = Call GroupOrUnionGraphPattern (λ a. through (AfterElement (with_group s a)))
+body GroupOrUnionGraphPattern = Call GroupGraphPatternSub (λ g. through (MoreGroups (whole g)))
+body (MoreGroups left) = if_next (is_terminal terminals.Union) (Skip (Call GroupGraphPattern (λ g. through (MoreGroups (Union left (whole g)))))) (Give left)
+body Constraint = by constraint_by
+-- triples = same ( "." triples? )?
+body (TriplesBlock before) = Call (TriplesSameSubject before) (λ ps. through (MoreTriples ps))
+body (MoreTriples before) =
+    if_next (is_terminal terminals.Dot) (Skip (if_next begins_term (Call (TriplesSameSubject before) (λ ps. through (MoreTriples ps))) (Give before))) (Give before)
+body (TriplesSameSubject before) = by (subject_by before)
+body (BlankSubject n before) = blank_subject (spots.Var n) before
+-- poList = verb objects ( ";" ( verb objects )? )*
+body (PropertyList s before) = Call (VerbObjects s before) (λ ps. through (MoreProperties s ps))
+body (MoreProperties s before) =
+    if_next (is_terminal terminals.Semicolon) (Skip (if_next begins_verb (Call (VerbObjects s before) (λ ps. through (MoreProperties s ps))) (through (MoreProperties s before)))) (Give before)
+body (VerbObjects s before) = by (verb_by s before)
+-- objects = object ( "," object )*
+body (ObjectList s p before) = Call (Object before) (λ x. through (MoreObjects s p (x.0 ++ triple s p x.1 ∷ [])))
+body (MoreObjects s p before) = if_next (is_terminal terminals.Comma) (Skip (through (ObjectList s p before))) (Give before)
+body (Object before) = by (object_by before)
+body (BlankObject n before) = blank_object (spots.Var n) before
+body VarOrTerm = by term_by
+body (SignedNumber sign) = by (signed_by sign)
+body (RdfLiteral text) = by (literal_by text)
+-- expr = and ( "||" and )*
+body Expression = Call ConditionalAnd (λ e. if_next (is_terminal terminals.Or) (Skip (through (OrOperands e))) (Give e))
+body (OrOperands first) = Call ConditionalAnd (λ e. through (MoreOr (first ∷ e ∷ [])))
+body (MoreOr before) = if_next (is_terminal terminals.Or) (Skip (Call ConditionalAnd (λ e. through (MoreOr (before ++ e ∷ []))))) (Give (Or before))
+-- and = rel ( "&&" rel )*
+body ConditionalAnd = Call Relational (λ e. if_next (is_terminal terminals.And) (Skip (through (AndOperands e))) (Give e))
+body (AndOperands first) = Call Relational (λ e. through (MoreAnd (first ∷ e ∷ [])))
+body (MoreAnd before) = if_next (is_terminal terminals.And) (Skip (Call Relational (λ e. through (MoreAnd (before ++ e ∷ []))))) (Give (And before))
+-- rel = sum ( ( "=" | "!=" | "<" | ">" | "<=" | ">=" ) sum )?
+body Relational = Call Additive (λ e. by (relational_by e))
+-- sum = unary ( ( "+" | "-" ) unary )*
+body Additive = Call Unary (λ e. by (additive_by e))
+body (Operands sign) = Call Unary (λ e. through (MoreOperands ((sign, e) ∷ [])))
+body (MoreOperands before) = by (more_operands_by before)
+body Unary = by unary_by
+body Primary = by primary_by
+body Bracketed = need terminals.OpenParen (Call Expression (λ e. need terminals.ShutParen (Give e)))
+-- call = BOUND "(" Var ")" | SAMETERM "(" expr "," expr ")" | ..
+body BoundVariable = need terminals.OpenParen (by bound_by)
+body TermPair = need terminals.OpenParen (Call Expression (λ a. need terminals.Comma (Call Expression (λ b. need terminals.ShutParen (Give (SameTerm a b))))))
+
+-- ---- faults
+
+-- tokens of SPARQL that the profile does not take where they do not fit
+abbrev pub is_unsupported : Kind → Bool
+is_unsupported kinds.Star = true
+is_unsupported (kinds.Sign signs.Plus) = true
+is_unsupported kinds.Bang = true
+is_unsupported kinds.OpenParen = true
+is_unsupported kinds.Select = true
+is_unsupported kinds.Unsupported = true
+is_unsupported _ = false
+
+abbrev pub misfit_by : Bool → ℕ → Fault
+misfit_by true from = Unsupported from
+misfit_by false from = Syntax from
+
+-- a token that does not fit
+abbrev pub misfit_of : Token → Fault
+misfit_of t = misfit_by (is_unsupported t.kind) t.from
+
+-- nothing is read from the token on that brings the fault `stop`, or from the end
+abbrev pub fault_of : Fault → List Token → Fault
+fault_of stop [] = stop
+fault_of stop (t ∷ ts) = misfit_of t
+
+abbrev pub sparql : Fault → Grammar
+sparql stop = record { Token = Token; Fault = Fault; Part = Part; Value = Value; body = body; fault_at = fault_of stop }
+
+-- ---- reading
+
+-- a part calls only parts of a smaller rank before a token is taken
+abbrev pub rank : Part → ℕ
+rank SelectQuery = 3
+rank (SelectBody distinct) = 2
+rank SelectClause = 1
+rank OrderClause = 3
+rank (MoreConditions before) = 2
+rank OrderCondition = 1
+rank GroupGraphPatternSub = 5
+rank (TriplesOrElements s) = 4
+rank (AfterElement s) = 5
+rank (Filter s) = 6
+rank (OptionalGraphPattern s) = 6
+rank (GroupElement s) = 7
+rank GroupOrUnionGraphPattern = 6
+rank Constraint = 2
+rank (TriplesBlock before) = 3
+rank (TriplesSameSubject before) = 2
+rank (BlankSubject n before) = 2
+rank (PropertyList s before) = 1
+rank (ObjectList s p before) = 2
+rank (Object before) = 1
+rank (BlankObject n before) = 2
+rank Expression = 6
+rank (OrOperands first) = 6
+rank ConditionalAnd = 5
+rank (AndOperands first) = 5
+rank Relational = 4
+rank Additive = 3
+rank (Operands sign) = 3
+rank Unary = 2
+rank Primary = 1
+rank _ = 0
+
+-- parts that surely take a token, where a rank needs it
+abbrev pub takes : Part → Bool
+takes OrderCondition = true
+takes Bracketed = true
+takes _ = false
+
+abbrev pub E : Part → Type 0
+E q = Outcome Token Fault (Value q)
+
+-- what the part reads of the tokens
+unfoldable pub reads : Fault → (q : Part) → List Token → E q
+reads stop q ts = parse (sparql stop) rank takes 8 q ts
+
+-- the same, opened by one step
+abbrev pub within : Fault → (q : Part) → List Token → E q
+within stop q ts = go (sparql stop) (reads stop) q (body q) ts
