@@ -8,9 +8,6 @@ use Rattle.turtle_lexer.proofs.Languages.{one_token_list, a_token_list}
 use Rattle.turtle_reader.specs.declared.fault.ReadFault.{ReadFault}
 use Rattle.doc_reader.specs.Reading.{read_as, Reads, Gives, ntriples_reading}
 
-pub a_reading : (doc bytes : List ℕ) → (r : Result (List Triple) ℕ) × Reads doc bytes r
-a_reading doc bytes = let t = a_token_list dialects.NTriples bytes in (read_as doc bytes t.0, record { tokens = t.0; are = t.1; is = refl })
-
 -- a reading is that by any token list of the text
 pub read_by : (doc bytes : List ℕ) (r : Result (List Triple) ℕ) (ts : List Token) → NTriplesTokens bytes ts → Reads doc bytes r → read_as doc bytes ts ≡ r
 read_by doc bytes r ts are p = ap (read_as doc bytes) (one_token_list dialects.NTriples bytes ts p.tokens are p.are) ∙ p.is

@@ -3,4 +3,5 @@ pub mod Lines
 pub mod Grammar
 pub mod Triples
 pub mod Reading
+pub mod Cursor
 pub mod Outcome

@@ -4,9 +4,6 @@ use Rattle.turtle_lexer.specs.declared.kind.TurtleKind.{TurtleKind}
 use Rattle.turtle_lexer.specs.declared.kind.TurtleKind.TheVariants as kinds
 use Rattle.turtle_lexer.specs.declared.token.Token.{Token}
 use Rattle.doc_reader.specs.declared.piece.Item.{Item}
-use Rattle.doc_reader.specs.declared.cursor.Next.{Next}
-use Rattle.doc_reader.specs.declared.cursor.Next.TheVariants as nexts
-use Rattle.doc_reader.specs.declared.cursor.Cursor.{Cursor}
 use Rattle.doc_reader.specs.Pieces.{item_of}
 
 -- a line: the tokens on it, and the place of its line end or the text's length
@@ -73,22 +70,3 @@ lines_from bytes at (t ∷ ts) = broken (line_end_between bytes at t.from) (from
 -- the lines of a text by its tokens
 abbrev pub lines_of : List ℕ → List Token → Lines
 lines_of bytes ts = lines_from bytes 0 ts
-
--- ---- the lines that a cursor stands before
-
-abbrev pub lines_by : Next → Lines → Lines
-lines_by (nexts.Item x) ls = on_line x ls
-lines_by (nexts.LineEnd n) ls = line_before n ls
-lines_by (nexts.End n) ls = last_line n
-
-abbrev pub view : Cursor → Lines
-view c = lines_by c.next (lines_from c.bytes.now c.at c.tokens.now)
-
--- one cursor stands before the line behind that of the other, where there is one
-abbrev pub IsNextLine : Lines → Lines → Bool → Type 0
-IsNextLine old new true = old.more ≡ first_line new ∷ new.more
-IsNextLine old new false = old.more ≡ []
-
--- the same lines are behind the line of each
-abbrev pub IsSameText : Cursor → Cursor → Type 0
-IsSameText old new = (view new).more ≡ (view old).more

@@ -10,9 +10,13 @@ use Rattle.link_uri.specs.declared.heard.Heard.{Heard}
 use Rattle.link_uri.specs.declared.heard.Heard.TheVariants.{Reply as Replied, Malformed, TooLong, Never}
 use Rattle.link_uri.specs.Links.{IsLink, joined_link}
 use Rattle.link_uri.specs.Heard.{is_uncoded, is_turtle, is_ntriples}
+use Rattle.turtle_scan.specs.declared.fault.Fault.{Fault}
+use Rattle.turtle_scan.specs.declared.fault.Fault.TheVariants.{Syntax, Deep}
+use Rattle.turtle_reader.specs.Reading.{turtle_reading}
 use Rattle.doc_reader.specs.Reading.{ntriples_reading}
 use Rattle.reach_terms.specs.declared.outcome.Outcome.{Outcome}
 use Rattle.reach_terms.specs.declared.outcome.Outcome.TheVariants.{Document, Moved, Refused}
+use Rattle.reach_terms.specs.declared.outcome.Why.{Why}
 use Rattle.reach_terms.specs.declared.outcome.Why.TheVariants as why
 use Rattle.reach_terms.specs.declared.web.Web.{Web}
 use Rattle.reach_terms.specs.Web.{heard_at}
@@ -35,14 +39,27 @@ abbrev pub moved_or_refused : Option Link → Outcome
 moved_or_refused (Some to) = Moved to
 moved_or_refused None = Refused why.Location
 
--- a text that was read: a document, or refused where it is none
-abbrev pub document_or_refused : Result (List Triple) ℕ → Outcome
-document_or_refused (Ok triples) = Document triples
-document_or_refused (Err at) = Refused (why.Syntax at)
+-- a text of N-Triples that was read: a document, or refused where it is none
+abbrev pub ntriples_outcome : Result (List Triple) ℕ → Outcome
+ntriples_outcome (Ok triples) = Document triples
+ntriples_outcome (Err at) = Refused (why.Syntax at)
 
--- a body of a wanted type, in the document of the link; Turtle is not read yet
+-- why a text of Turtle is none: it is not of the language, or too many of its brackets are open at once
+abbrev pub fault_why : Fault → Why
+fault_why (Syntax at) = why.Syntax at
+fault_why (Deep at) = why.Deep at
+
+-- a text of Turtle that was read: a document, or refused where it is none
+abbrev pub turtle_outcome : Result (List Triple) Fault → Outcome
+turtle_outcome (Ok triples) = Document triples
+turtle_outcome (Err fault) = Refused (fault_why fault)
+
+-- A body of a wanted type (RDF 1.1 Turtle, section 2; RDF 1.1 N-Triples, section 2). The text of the link, which has no fragment,
+-- is the name of the document, and the base of Turtle at the beginning (RFC 3986, section 5.1.3).
 abbrev pub text_outcome : Link → Reply → Outcome
-text_outcome link reply = if is_turtle reply then Refused (why.Syntax 0) else document_or_refused (ntriples_reading link.text reply.body)
+text_outcome link reply =
+    if is_turtle reply then turtle_outcome (turtle_reading link.text link.text reply.body)
+    else ntriples_outcome (ntriples_reading link.text reply.body)
 
 -- a reply with status 200
 abbrev pub body_outcome : Link → Reply → ℕ → Outcome

@@ -7,9 +7,8 @@ use Rattle.turtle_lexer.specs.Tokens.{NTriplesTokens}
 use Rattle.turtle_lexer.proofs.Languages.{a_token_list}
 use Rattle.turtle_reader.specs.declared.fault.ReadFault.{ReadFault}
 use Rattle.turtle_reader.specs.declared.fault.ReadFault.TheVariants as faults
-use Rattle.doc_reader.specs.declared.cursor.Cursor.{Cursor}
-use Rattle.doc_reader.specs.Lines.{Lines, lines_of, view}
-use Rattle.doc_reader.specs.Grammar.{Reading, document}
+use Rattle.doc_reader.specs.Lines.{Lines, lines_of}
+use Rattle.doc_reader.specs.Grammar.{document}
 use Rattle.doc_reader.specs.Triples.{numbered}
 
 -- what lines are read as, in a document of this name
@@ -41,8 +40,3 @@ Fails (faults.Deep at) want = ⊥
 abbrev pub Gives : {X Y : Type 0} → (X → Y) → Result X ReadFault → Result Y ℕ → Type 0
 Gives see (Ok x) want = want ≡ Ok (see x)
 Gives see (Err e) want = Fails e want
-
--- a cursor is moved on, with a value
-abbrev pub Steps : {X : Type 0} → Cursor → Result X ReadFault → Reading X → Type 0
-Steps new (Ok x) want = want ≡ Ok (x, view new)
-Steps new (Err e) want = Fails e want

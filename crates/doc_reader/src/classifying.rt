@@ -3,6 +3,7 @@
 ghost use Rattle.std.specs.Prelude.{◌≡◌, ◌≢◌, IfOk, IfSome, OnOk, Some};
 ghost use Rattle.link_uri.specs.Links.{IsLink};
 ghost use Rattle.link_uri.specs.declared.heard.Heard.TheVariants.{Never};
+ghost use Rattle.turtle_reader.specs.Reading.{turtle_reading};
 ghost use Rattle.doc_reader.specs.Outcome.{HasLinks};
 ghost use Rattle.doc_reader.specs.Reading.{ntriples_reading};
 ghost use Rattle.doc_reader.specs.Outcome as spec;
@@ -12,7 +13,7 @@ use link_uri::{Heard, Link, Reply, Scheme, join};
 use rdf_terms::{ByteBuf, Memory, Seq};
 use reach_terms::{Outcome, Why};
 use std::alloc::Global;
-use turtle_reader::ReadFault;
+use turtle_reader::{ReadFault, read_turtle};
 
 fn is_redirect(status: u16) -> bool
     ensures { result ≡ spec.is_redirect status }
@@ -55,8 +56,8 @@ fn moved_or_refused(to: Option<Link>) -> Outcome
     }
 }
 
-fn document_or_refused(alloc: Global, link: &Link, body: &[u8]) -> Result<Outcome, Memory>
-    ensures value { IfOk result (λ o. o ≡ spec.document_or_refused (ntriples_reading link.now.text body.now)) }
+fn ntriples_outcome(alloc: Global, link: &Link, body: &[u8]) -> Result<Outcome, Memory>
+    ensures value { IfOk result (λ o. o ≡ spec.ntriples_outcome (ntriples_reading link.now.text body.now)) }
     ensures links { IfOk result HasLinks }
 {
     match read_ntriples(alloc, link.text.as_str(), body) {
@@ -67,15 +68,29 @@ fn document_or_refused(alloc: Global, link: &Link, body: &[u8]) -> Result<Outcom
     }
 }
 
-// Turtle is not read yet.
+// The text of the link is the base of Turtle at the beginning, too.
+fn turtle_outcome(alloc: Global, link: &Link, body: &[u8]) -> Result<Outcome, Memory>
+    ensures value { IfOk result (λ o. o ≡ spec.turtle_outcome (turtle_reading link.now.text link.now.text body.now)) }
+    ensures links { IfOk result HasLinks }
+{
+    let text = link.text.as_str();
+    match read_turtle(alloc, text, text, body) {
+        Ok(triples) => Ok(Outcome::Document(Seq::from_vec(triples))),
+        Err(ReadFault::Syntax { at }) => Ok(Outcome::Refused(Why::Syntax(at))),
+        Err(ReadFault::Deep { at }) => Ok(Outcome::Refused(Why::Deep(at))),
+        Err(ReadFault::Memory) => Err(Memory),
+    }
+}
+
 fn text_outcome(alloc: Global, link: &Link, reply: &Reply) -> Result<Outcome, Memory>
     ensures value { IfOk result (λ o. o ≡ spec.text_outcome link.now reply.now) }
     ensures links { IfOk result HasLinks }
 {
+    let body = reply.body.as_slice();
     if reply.is_turtle() {
-        return Ok(Outcome::Refused(Why::Syntax(0)));
+        return turtle_outcome(alloc, link, body);
     }
-    document_or_refused(alloc, link, reply.body.as_slice())
+    ntriples_outcome(alloc, link, body)
 }
 
 fn body_outcome(alloc: Global, link: &Link, reply: &Reply, limit: u64) -> Result<Outcome, Memory>
@@ -121,8 +136,8 @@ fn heard_outcome(alloc: Global, link: &Link, heard: &Heard, limit: u64) -> Resul
     }
 }
 
-/// What the answer for a link comes to, with a limit on the bytes of a body. It takes time that is
-/// linear in the body.
+/// What the answer for a link comes to, with a limit on the bytes of a body. It takes the time of
+/// reading the body.
 pub fn classify(alloc: Global, link: &Link, heard: &Heard, limit: u64) -> Result<Outcome, Memory>
     requires own { IsLink link.now }
     requires answered { heard.now ≢ Never }

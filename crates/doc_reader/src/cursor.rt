@@ -3,8 +3,8 @@
 ghost use Rattle.std.specs.Prelude.{◌≡◌, ◌<◌, true, OnOk, IfOk, IfSome, length, position};
 ghost use Rattle.doc_reader.specs.Grammar as grammar;
 ghost use Rattle.doc_reader.specs.Lines as spec;
-ghost use Rattle.doc_reader.specs.Lines.{view, is_empty, IsSameText};
-ghost use Rattle.doc_reader.specs.Reading.{Steps};
+ghost use Rattle.doc_reader.specs.Lines.{is_empty};
+ghost use Rattle.doc_reader.specs.Cursor.{view, IsNextLine, IsSameText, Steps};
 
 use crate::piece::{Item, between, item_of};
 use rdf_terms::Memory;
@@ -137,7 +137,7 @@ impl<'a> Cursor<'a> {
     /// Goes on to the next line behind one that has no more tokens; false where there is none.
     pub fn next_line(&mut self) -> Result<bool, Memory>
         requires { is_empty (view self.old).items ≡ true }
-        ensures { IfOk result (spec.IsNextLine (view self.old) (view self.new)) }
+        ensures { IfOk result (IsNextLine (view self.old) (view self.new)) }
     {
         match self.next {
             Next::LineEnd(_) => {

@@ -2,7 +2,7 @@
 
 ghost use Rattle.std.specs.Prelude.{◌≡◌, ◌++◌, ℕ, List, Result};
 ghost use Rattle.rdf_terms.specs.declared.triple.Triple.{Triple as Read};
-ghost use Rattle.doc_reader.specs.Lines.{view};
+ghost use Rattle.doc_reader.specs.Cursor.{view};
 ghost use Rattle.doc_reader.specs.Reading as spec;
 
 use crate::cursor::Cursor;

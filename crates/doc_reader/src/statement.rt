@@ -2,8 +2,8 @@
 
 ghost use Rattle.std.specs.Prelude.{◌≡◌, true, OnOk};
 ghost use Rattle.doc_reader.specs.Grammar as spec;
-ghost use Rattle.doc_reader.specs.Lines.{view, is_empty, IsSameText};
-ghost use Rattle.doc_reader.specs.Reading.{Steps};
+ghost use Rattle.doc_reader.specs.Lines.{is_empty};
+ghost use Rattle.doc_reader.specs.Cursor.{view, IsSameText, Steps};
 
 use crate::cursor::{Cursor, Next};
 use crate::piece::{Item, Piece};

@@ -13,8 +13,9 @@ use Rattle.turtle_scan.specs.declared.fault.ScanError.TheVariants as errors
 use Rattle.turtle_scan.specs.declared.kind.Token.{Token}
 use Rattle.turtle_scan.specs.Scan.{Scanning, scanning}
 use Rattle.turtle_reader.specs.declared.fault.ReadFault.{ReadFault}
+use Rattle.turtle_reader.specs.declared.fault.ReadFault.TheVariants as faults
 use Rattle.turtle_reader.specs.Grammar.{E, TurtleDoc, reads, Fails}
-use Rattle.turtle_reader.specs.Reading.{answer_of, ReadsScanned, IsTurtle, IsFault, reported}
+use Rattle.turtle_reader.specs.Reading.{answer_of, ReadsScanned, IsTurtle, turtle_reading, IsFault, reported}
 use Rattle.turtle_reader.proofs.Whole.{only_one, is_read}
 
 scanned_is : (doc : List ℕ) (s : Scanning) (o : E (TurtleDoc [])) → reads doc s.stop (TurtleDoc []) s.tokens ≡ o → ReadsScanned doc s (answer_of o)
@@ -44,12 +45,13 @@ pub fault_is : (doc base bytes name : List ℕ) (lexed lent : List Lexed) (s : S
 fault_is doc base bytes name lexed lent s stop tokens e f l i c n p q h r =
     subst (λ (x : ReadFault). IsFault x (λ y. IsTurtle doc base bytes (Err y))) (sym r) (error_is doc base bytes name lexed lent s stop tokens e l i c n p q h)
 
-pub present : (doc base bytes : List ℕ) → (answer : Result (List Triple) Fault) × IsTurtle doc base bytes answer
+pub present : (doc base bytes : List ℕ) → IsTurtle doc base bytes (turtle_reading doc base bytes)
+unfolding turtle_reading
 present doc base bytes =
     let l = a_token_list dialects.Turtle bytes in
     let s : Scanning = scanning base bytes l.0 in
     let o : E (TurtleDoc []) = reads doc s.stop (TurtleDoc []) s.tokens in
-    (answer_of o, read_is doc base bytes l.0 s o l.1 refl refl)
+    read_is doc base bytes l.0 s o l.1 refl refl
 
 scanned_only : (doc : List ℕ) (s : Scanning) (a b : Result (List Triple) Fault) → ReadsScanned doc s a → ReadsScanned doc s b → a ≡ b
 scanned_only doc s a b r t = r.2 ∙ (ap (λ (o : E (TurtleDoc [])). answer_of o) (only_one doc s.stop (TurtleDoc []) s.tokens r.0 t.0 r.1 t.1) ∙ sym t.2)
@@ -58,3 +60,12 @@ pub only : (doc base bytes : List ℕ) (a b : Result (List Triple) Fault) → Is
 only doc base bytes a b r t =
     let same : r.0 ≡ t.0 = one_token_list dialects.Turtle bytes r.0 t.0 r.1 t.1 in
     scanned_only doc (scanning base bytes r.0) a b r.2 (subst (λ (l : List Lexed). ReadsScanned doc (scanning base bytes l) b) (sym same) t.2)
+
+-- an answer of the text is its reading
+pub reading_is : (doc base bytes : List ℕ) (answer : Result (List Triple) Fault) → IsTurtle doc base bytes answer → turtle_reading doc base bytes ≡ answer
+reading_is doc base bytes answer r = only doc base bytes (turtle_reading doc base bytes) answer (present doc base bytes) r
+
+pub reading_fault_is : (doc base bytes : List ℕ) (f : ReadFault) → IsFault f (λ x. IsTurtle doc base bytes (Err x)) → IsFault f (λ x. turtle_reading doc base bytes ≡ Err x)
+reading_fault_is doc base bytes (faults.Syntax at) r = reading_is doc base bytes (Err (Syntax at)) r
+reading_fault_is doc base bytes (faults.Deep at) r = reading_is doc base bytes (Err (Deep at)) r
+reading_fault_is doc base bytes faults.Memory r = tt

@@ -2,8 +2,10 @@
 use Rattle.std.specs.Prelude.{◌≡◌, ℕ, List, [], Result, Ok, Err}
 use Rattle.rdf_terms.specs.declared.triple.Triple.{Triple}
 use Rattle.grammar_engine.specs.Engine.{Done, Not, Reads}
+use Rattle.turtle_lexer.specs.declared.dialect.Dialect.TheVariants as dialects
 use Rattle.turtle_lexer.specs.declared.token.Token.{Token as Lexed}
 use Rattle.turtle_lexer.specs.Tokens.{TurtleTokens}
+use Rattle.turtle_lexer.proofs.Languages.{a_token_list}
 use Rattle.turtle_scan.specs.declared.fault.Fault.{Fault}
 use Rattle.turtle_scan.specs.declared.fault.Fault.TheVariants.{Syntax, Deep}
 use Rattle.turtle_scan.specs.Scan.{Scanning, scanning}
@@ -11,7 +13,7 @@ use Rattle.turtle_scan.specs.declared.fault.ScanError.{ScanError}
 use Rattle.turtle_scan.specs.declared.fault.ScanError.TheVariants as errors
 use Rattle.turtle_reader.specs.declared.fault.ReadFault.{ReadFault}
 use Rattle.turtle_reader.specs.declared.fault.ReadFault.TheVariants as faults
-use Rattle.turtle_reader.specs.Grammar.{E, TurtleDoc, turtle, body}
+use Rattle.turtle_reader.specs.Grammar.{E, TurtleDoc, turtle, body, reads}
 
 -- the document that is read, or the fault
 abbrev pub answer_of : E (TurtleDoc []) → Result (List Triple) Fault
@@ -27,6 +29,14 @@ ReadsScanned doc s answer = (o : E (TurtleDoc [])) × Reads (turtle doc s.stop) 
 -- something under the bases and prefixes in force, and the grammar reads these.
 abbrev pub IsTurtle : List ℕ → List ℕ → List ℕ → Result (List Triple) Fault → Type 0
 IsTurtle doc base bytes answer = (lexed : List Lexed) × TurtleTokens bytes lexed × ReadsScanned doc (scanning base bytes lexed) answer
+
+-- what the grammar reads in the tokens with what they stand for
+abbrev pub scanned_reading : List ℕ → Scanning → Result (List Triple) Fault
+scanned_reading doc s = answer_of (reads doc s.stop (TurtleDoc []) s.tokens)
+
+-- the one answer that the text has (`one_answer`): that by its token list, of which it has one (`one_token_list`)
+unfoldable pub turtle_reading : List ℕ → List ℕ → List ℕ → Result (List Triple) Fault
+turtle_reading doc base bytes = scanned_reading doc (scanning base bytes (a_token_list dialects.Turtle bytes).0)
 
 -- the fault that is reported; of memory nothing is said
 abbrev pub IsFault : ReadFault → (Fault → Type 0) → Type 0

@@ -7,8 +7,10 @@ use thiserror::Error;
 /// Why a text isn't read. A place is a count of bytes.
 #[derive(Clone, Copy, Debug, Drop, PartialEq, Eq, Error)]
 pub enum ReadFault {
-    /// The text isn't in the grammar: where the first token begins that does not fit, or its length
-    /// where it ends too early.
+    /// The text isn't of the language: where the first token begins that does not fit, that is an
+    /// IRI reference which is none, or whose prefix is not declared or makes no IRI reference with
+    /// its local name; the place where no token can be read; or the text's length where it ends too
+    /// early.
     #[error("not in the grammar, at byte {at}")]
     Syntax { at: usize },
     /// The place of the first bracket past the limit.

@@ -6,7 +6,9 @@
 //! (`one_answer`).
 //! Not here: where tokens begin and end (`turtle_lexer`), and what each stands for (`turtle_scan`).
 //!
-//! It takes time and memory linear in the text. Want of memory is `Memory`.
+//! It takes time linear in the text and in the IRIs that its names stand for, each of which is
+//! written out, and in the base in force for each IRIREF; and memory linear in the text and in these
+//! IRIs. Want of memory is `Memory`.
 #![tactic(auto)]
 
 mod document;

@@ -2,7 +2,7 @@
 
 ghost use Rattle.std.specs.Prelude.{◌≡◌, Ok, Err, IfOk, IfErr};
 ghost use Rattle.turtle_reader.specs.Reading as spec;
-ghost use Rattle.turtle_reader.specs.Reading.{IsTurtle, IsFault};
+ghost use Rattle.turtle_reader.specs.Reading.{IsTurtle, IsFault, turtle_reading};
 
 use crate::document::document;
 use crate::fault::ReadFault;
@@ -23,8 +23,9 @@ fn reported(error: ScanError) -> ReadFault
 }
 
 /// The triples of a Turtle document in order, with `doc` as the name of its blank nodes and `base` as
-/// its base at the beginning; or the first fault in the text. It takes time and memory linear in the
-/// text.
+/// its base at the beginning; or the first fault in the text. It takes time linear in the text
+/// and in the IRIs that its names stand for, each of which is written out, and in the base in force
+/// for each IRIREF; and memory linear in the text and in these IRIs.
 pub fn read_turtle(
     alloc: Global,
     doc: &str,
@@ -33,6 +34,10 @@ pub fn read_turtle(
 ) -> Result<Vec<Triple>, ReadFault>
     ensures ok { IfOk result (λ triples. IsTurtle doc.now base.now bytes.now (Ok triples.items)) }
     ensures fault { IfErr result (λ e. IsFault e (λ x. IsTurtle doc.now base.now bytes.now (Err x))) }
+
+    // The same of the function that gives each text its answer.
+    ensures ok_reading { IfOk result (λ triples. turtle_reading doc.now base.now bytes.now ≡ Ok triples.items) }
+    ensures fault_reading { IfErr result (λ e. IsFault e (λ x. turtle_reading doc.now base.now bytes.now ≡ Err x)) }
 {
     let lexed = lex_turtle(alloc, bytes)?;
     let scanned = scan(alloc, base, bytes, lexed.as_slice())?;

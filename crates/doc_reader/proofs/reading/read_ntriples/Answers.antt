@@ -1,6 +1,7 @@
 use Rattle.std.proofs.Common.{◌≡◌, List, ap, ◌∙◌}
 use Rattle.turtle_lexer.specs.declared.token.Token.{Token}
-use Rattle.doc_reader.specs.Lines.{view, lines_of}
+use Rattle.doc_reader.specs.Lines.{lines_of}
+use Rattle.doc_reader.specs.Cursor.{view}
 use Rattle.doc_reader.specs.Reading.{lines_read_as, read_as, ntriples_reading}
 use Rattle.doc_reader.proofs.Readings.{read_by, reading_is, gives_by}
 use Rattle.doc_reader.proofs.reading.read_ntriples.Goals as goal

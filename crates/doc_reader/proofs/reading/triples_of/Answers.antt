@@ -1,7 +1,7 @@
 use Rattle.std.proofs.Common.{◌≡◌, ◌++◌, ℕ, List, Bool, sym, ap, subst, ◌∙◌}
 use Rattle.std.proofs.lemmas.Result.{err_from_is_err_and}
 use Rattle.doc_reader.specs.declared.numbering.Common.{Common}
-use Rattle.doc_reader.specs.Lines.{view, IsNextLine}
+use Rattle.doc_reader.specs.Cursor.{view, IsNextLine}
 use Rattle.doc_reader.specs.Triples.{IsCommon, line_triples}
 use Rattle.doc_reader.proofs.Documents.{begun, line_fails, line_step, line_last}
 use Rattle.doc_reader.proofs.reading.triples_of.Goals as goal

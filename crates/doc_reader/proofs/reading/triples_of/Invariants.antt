@@ -1,5 +1,5 @@
 use Rattle.std.proofs.Common.{◌≡◌, length}
-use Rattle.doc_reader.specs.Lines.{view}
+use Rattle.doc_reader.specs.Cursor.{view}
 use Rattle.doc_reader.specs.Reading.{lines_read_as}
 use Rattle.doc_reader.specs.Triples.{IsCommon}
 use Rattle.doc_reader.proofs.Documents.{IsRest}

@@ -1,6 +1,7 @@
 use Rattle.std.proofs.Common.{◌≡◌, sym, subst, ◌∙◌}
 use Rattle.std.specs.Prelude.{OnOk}
-use Rattle.doc_reader.specs.Lines.{Lines, view}
+use Rattle.doc_reader.specs.Lines.{Lines}
+use Rattle.doc_reader.specs.Cursor.{view}
 use Rattle.doc_reader.proofs.Loading.{load_end, load_line_end, load_token}
 use Rattle.doc_reader.proofs.cursor.Cursor.load.Goals as goal
 
