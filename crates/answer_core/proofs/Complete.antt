@@ -1,4 +1,4 @@
--- Over a told input that is a site of the built form, and without faults, a run comes to its end.
+-- Over a told input that is a site, and without faults, the run of a query comes to its end, and one that is refused is answered so.
 use Rattle.std.proofs.Common.{ℕ, ◌≡◌, ◌⊎◌, ◌+◌, ◌≤◌, ◌<◌, List, ◌++◌, Option, Some, None, Bool, true, false, inl, inr, refl, sym, ap, subst, ◌∙◌, arith, length, length-append, append-nil}
 use Rattle.std.specs.Prelude.{is_some, unwrap_or}
 use Rattle.std.specs.Io.KnownBytes.{prepend_known, IsAtEnd}
@@ -6,13 +6,16 @@ use Rattle.std.proofs.lemmas.Bool.{false≢true}
 use Rattle.reach_terms.specs.declared.record.Record.{Record}
 use Rattle.site_core.specs.Text.{Entry, SiteText, site_limit}
 use Rattle.site_core.specs.Places.{SiteBad}
-use Rattle.site_core.proofs.OneAnswer.{one_site, never_both}
-use Rattle.answer_core.specs.Bodies.{are_built}
-use Rattle.answer_core.specs.Codes.{IsWhole}
+use Rattle.site_core.proofs.OneAnswer.{never_both}
+use Rattle.answer_core.specs.Codes.{IsRefusal, IsWhole}
 use Rattle.answer_core.specs.declared.command.Command.{Command}
-use Rattle.answer_core.specs.Input.{Saw, IsUnbuilt}
+use Rattle.answer_core.specs.Command.{Asked, Asks, IsCommandOf}
+use Rattle.answer_core.specs.Input.{SawInput, RanOver}
+use Rattle.answer_core.specs.Queries.{IsRefused}
+use Rattle.answer_core.proofs.Queries.{not_both}
+use Rattle.answer_core.specs.declared.status.QueryWhy.{QueryWhy}
 use Rattle.answer_core.specs.declared.status.Status.{Status}
-use Rattle.answer_core.specs.declared.status.Status.TheVariants.{Ok, Partial, Limit, Site, Input, Output, Memory, Report, NotBuilt}
+use Rattle.answer_core.specs.declared.status.Status.TheVariants.{Ok, Partial, Limit, Query, Site, Input, Output, Memory, Report, NotBuilt}
 
 -- the bytes that were read to the End are all bytes
 all_read : (input bytes : List ℕ) (left : Option (List ℕ)) → Some bytes ≡ prepend_known input left → IsAtEnd left → bytes ≡ input
@@ -31,23 +34,41 @@ no_site_fault : (site : List Entry) (input bytes : List ℕ) (left : Option (Lis
 no_site_fault site input bytes left counted at read text bad (inl ended) = never_both site bytes at text (subst (λ (b : List ℕ). SiteBad b at) (sym (all_read input bytes left read ended.1)) bad)
 no_site_fault site input bytes left counted at read text bad (inr long) = absurd (omega (arith, text.within, within input bytes left read, long))
 
-no_unbuilt : (site : List Entry) (bytes : List ℕ) → SiteText site bytes → are_built site ≡ true → IsUnbuilt bytes → ⊥
-no_unbuilt site bytes text built u =
-    let same = one_site site u.site bytes text u.text in
-    false≢true (sym u.unbuilt ∙ (sym (ap are_built same) ∙ built))
+-- a run over a site, and a query that is refused
+no_run : (a : Asked) (t : Option Record) (bytes : List ℕ) (at : ℕ) (reason : QueryWhy) → IsRefused a.query at reason → RanOver a t bytes → ⊥
+no_run a t bytes at reason refused x = not_both a.query x.of.0 at reason x.of.1 refused
 
-pub complete : (c : Command) (s : Status) (t : Option Record) (old new : Option (List ℕ)) (counted read_rose write_rose report_rose : Type 0) (bytes : List ℕ) (site : List Entry)
-    → (input : List ℕ) × (old ≡ prepend_known input new) × Saw c s t input (counted × IsAtEnd new)
-    → (s ≡ Input → read_rose) → (s ≡ Output → write_rose) → (s ≡ Report → report_rose) → old ≡ Some bytes → SiteText site bytes → are_built site ≡ true
+complete_of : (a : Asked) (c : Command) (s : Status) (t : Option Record) (old new : Option (List ℕ)) (counted read_rose write_rose report_rose : Type 0) (bytes : List ℕ) (site : List Entry)
+    → IsCommandOf a c → SawInput a s t old new (counted × IsAtEnd new)
+    → (s ≡ Input → read_rose) → (s ≡ Output → write_rose) → (s ≡ Report → report_rose) → old ≡ Some bytes → SiteText site bytes
     → (read_rose → ⊥) → (write_rose → ⊥) → (report_rose → ⊥) → IsWhole s
-complete c Ok t old new n r w p bytes site x i o q told text built no_read no_write no_report = tt
-complete c Partial t old new n r w p bytes site x i o q told text built no_read no_write no_report = tt
-complete c Limit t old new n r w p bytes site x i o q told text built no_read no_write no_report = tt
-complete c (Site at) t old new n r w p bytes site x i o q told text built no_read no_write no_report = no_site_fault site x.0 bytes new n at (sym told ∙ x.1) text x.2.0 x.2.1
-complete c Input t old new n r w p bytes site x i o q told text built no_read no_write no_report = no_read (i refl)
-complete c Output t old new n r w p bytes site x i o q told text built no_read no_write no_report = no_write (o refl)
-complete c Memory t old new n r w p bytes site x i o q told text built no_read no_write no_report = tt
-complete c Report t old new n r w p bytes site x i o q told text built no_read no_write no_report = no_report (q refl)
-complete c NotBuilt t old new n r w p bytes site x i o q told text built no_read no_write no_report =
-    let same = all_read x.0 bytes new (sym told ∙ x.1) x.2.0.1 in
-    no_unbuilt site bytes text built (subst IsUnbuilt (sym same) x.2.1)
+complete_of a c Ok t old new n r w p bytes site of x i o q told text no_read no_write no_report = tt
+complete_of a c Partial t old new n r w p bytes site of x i o q told text no_read no_write no_report = tt
+complete_of a c Limit t old new n r w p bytes site of x i o q told text no_read no_write no_report = tt
+complete_of a c (Query at reason) t old new n r w p bytes site of x i o q told text no_read no_write no_report = not_both a.query of.0 at reason of.1 x.2.2
+complete_of a c (Site at) t old new n r w p bytes site of x i o q told text no_read no_write no_report = no_site_fault site x.0 bytes new n at (sym told ∙ x.1) text x.2.0 x.2.1
+complete_of a c Input t old new n r w p bytes site of x i o q told text no_read no_write no_report = no_read (i refl)
+complete_of a c Output t old new n r w p bytes site of x i o q told text no_read no_write no_report = no_write (o refl)
+complete_of a c Memory t old new n r w p bytes site of x i o q told text no_read no_write no_report = tt
+complete_of a c Report t old new n r w p bytes site of x i o q told text no_read no_write no_report = no_report (q refl)
+complete_of a c NotBuilt t old new n r w p bytes site of x i o q told text no_read no_write no_report = x.2
+
+pub complete : (asked : Option Asked) (c : Command) (s : Status) (t : Option Record) (old new : Option (List ℕ)) (counted read_rose write_rose report_rose : Type 0) (bytes : List ℕ) (site : List Entry)
+    → Asks asked c → ((a : Asked) → asked ≡ Some a → SawInput a s t old new (counted × IsAtEnd new))
+    → (s ≡ Input → read_rose) → (s ≡ Output → write_rose) → (s ≡ Report → report_rose) → old ≡ Some bytes → SiteText site bytes
+    → (read_rose → ⊥) → (write_rose → ⊥) → (report_rose → ⊥) → IsWhole s
+complete (Some a) c s t old new n r w p bytes site of saw i o q told text no_read no_write no_report = complete_of a c s t old new n r w p bytes site of (saw a refl) i o q told text no_read no_write no_report
+complete None c s t old new n r w p bytes site of saw i o q told text no_read no_write no_report = absurd of
+
+pub refused : (a : Asked) (s : Status) (t : Option Record) (old new : Option (List ℕ)) (counted read_rose : Type 0) (bytes : List ℕ) (site : List Entry) (at : ℕ) (reason : QueryWhy)
+    → IsRefused a.query at reason → SawInput a s t old new (counted × IsAtEnd new) → (s ≡ Input → read_rose) → old ≡ Some bytes → SiteText site bytes → (read_rose → ⊥) → IsRefusal s
+refused a Ok t old new n r bytes site at reason bad x i told text no_read = no_run a t x.0 at reason bad x.2.1
+refused a Partial t old new n r bytes site at reason bad x i told text no_read = no_run a t x.0 at reason bad x.2.1
+refused a Limit t old new n r bytes site at reason bad x i told text no_read = no_run a t x.0 at reason bad x.2.1
+refused a (Query here why) t old new n r bytes site at reason bad x i told text no_read = tt
+refused a (Site here) t old new n r bytes site at reason bad x i told text no_read = no_site_fault site x.0 bytes new n here (sym told ∙ x.1) text x.2.0 x.2.1
+refused a Input t old new n r bytes site at reason bad x i told text no_read = no_read (i refl)
+refused a Output t old new n r bytes site at reason bad x i told text no_read = no_run a t x.0 at reason bad x.2.1
+refused a Memory t old new n r bytes site at reason bad x i told text no_read = tt
+refused a Report t old new n r bytes site at reason bad x i told text no_read = no_run a t x.0 at reason bad x.2.1
+refused a NotBuilt t old new n r bytes site at reason bad x i told text no_read = x.2

@@ -1,4 +1,3 @@
-pub mod Splitting
 pub mod Many
 pub mod Ends
 pub mod Turning
@@ -6,3 +5,4 @@ pub mod Reports
 pub mod Complete
 pub mod Seeds
 pub mod Reading
+pub mod Queries

@@ -6,13 +6,14 @@ use Rattle.reach_terms.specs.declared.record.Record.{Record}
 use Rattle.answer_core.specs.Codes.{HasEnd, IsReported, Fits, ended_status}
 use Rattle.answer_core.specs.Reported.{IsTextOf, GrewByPrefix, Reported, ToldReplaced, ToldMemory, memory_line}
 use Rattle.answer_core.specs.declared.command.Command.{Command}
+use Rattle.answer_core.specs.Command.{Asked, Asks}
 use Rattle.answer_core.specs.Headline.{Traversed, Written}
 use Rattle.answer_core.specs.Input.{SawInput}
 use Rattle.answer_core.specs.Shown.{Shown}
 use Rattle.answer_core.specs.Running.{failed_report, Is, WroteReport, Turned}
 use Rattle.answer_core.specs.declared.status.Status.{Status}
-use Rattle.answer_core.specs.declared.status.Status.TheVariants.{Ok, Partial, Limit, Site, Input, Output, Memory, Report, NotBuilt}
-use Rattle.answer_core.proofs.Turning.{coded_turned}
+use Rattle.answer_core.specs.declared.status.Status.TheVariants.{Ok, Partial, Limit, Query, Site, Input, Output, Memory, Report, NotBuilt}
+use Rattle.answer_core.proofs.Turning.{coded_turned, recorded_turned}
 
 whole_prefix : (old new : Option (List ℕ)) (text : List ℕ) → new ≡ append_known old text → GrewByPrefix old new text
 whole_prefix old new text e = (length text, omega arith, e ∙ ap (append_known old) (sym (take-length text)))
@@ -27,6 +28,7 @@ told : (shown : Status → Type 0) (s : Status) (t : Option Record) (text : List
 told shown Ok t text old new failed n f x e = (text, x, e)
 told shown Partial t text old new failed n f x e = (text, x, e)
 told shown Limit t text old new failed n f x e = (text, x, e)
+told shown (Query at why) t text old new failed n f x e = inl (text, x, e)
 told shown (Site at) t text old new failed n f x e = inl (text, x, e)
 told shown Input t text old new failed n f x e = inl (text, x, e)
 told shown Output t text old new failed n f x e = inl (text, x, e)
@@ -43,6 +45,7 @@ failed_told shown Partial (Some r) text old new failed n f x h p = (h, (text, su
 failed_told shown Partial None text old new failed n f x h p = absurd f
 failed_told shown Limit (Some r) text old new failed n f x h p = (h, (text, subst (λ z. IsTextOf z (Some r) text) (sym f) x, p))
 failed_told shown Limit None text old new failed n f x h p = absurd f
+failed_told shown (Query at why) t text old new failed n f x h p = inr (h, (text, x, p))
 failed_told shown (Site at) t text old new failed n f x h p = inr (h, (text, x, p))
 failed_told shown Input t text old new failed n f x h p = inr (h, (text, x, p))
 failed_told shown Output t text old new failed n f x h p = inr (h, (text, x, p))
@@ -70,6 +73,7 @@ pub reported_as : (f g : Status → Type 0) (now : Status) (t : Option Record) (
 reported_as f g Ok t old new failed m x = x
 reported_as f g Partial t old new failed m x = x
 reported_as f g Limit t old new failed m x = x
+reported_as f g (Query at why) t old new failed m x = x
 reported_as f g (Site at) t old new failed m x = x
 reported_as f g Input t old new failed m x = x
 reported_as f g Output t old new failed m x = x
@@ -82,13 +86,14 @@ not_memory : (s : Status) → (s ≡ NotBuilt) ⊎ (s ≡ Memory) → s ≢ Memo
 not_memory s (inl e) n = e
 not_memory s (inr e) n = absurd (n e)
 
-pub shown : (command : Option Command) (t : Option Record) (left_old left_new : Option (List ℕ)) (ended : Type 0) (out_old out_new : Option (List ℕ)) (input_rose output_rose : Type 0) (status : Status)
-    → (command ≡ None → (status ≡ NotBuilt) ⊎ (status ≡ Memory)) → ((c : Command) → command ≡ Some c → Traversed c status t) → ((c : Command) → command ≡ Some c → Written c status t out_old out_new)
-    → ((c : Command) → command ≡ Some c → SawInput c status t left_old left_new ended) → Fits status t → (status ≡ Input → input_rose) → (status ≡ Output → output_rose) → (s : Status) → s ≢ Memory → s ≡ status
-    → Shown command t left_old left_new ended out_old out_new input_rose output_rose s
-shown command t left_old left_new ended out_old out_new input_rose output_rose status words traversed written read fits input output s n e =
-    subst (Shown command t left_old left_new ended out_old out_new input_rose output_rose) (sym e) (record {
+pub shown : (asked : Option Asked) (t : Option Record) (left_old left_new : Option (List ℕ)) (ended : Type 0) (out_old out_new : Option (List ℕ)) (input_rose output_rose : Type 0) (status : Status)
+    → (asked ≡ None → (status ≡ NotBuilt) ⊎ (status ≡ Memory)) → ((c : Command) → Asks asked c → Traversed c status t) → ((c : Command) → Asks asked c → Written c status t out_old out_new)
+    → ((a : Asked) → asked ≡ Some a → SawInput a status t left_old left_new ended) → Fits status t → (status ≡ Input → input_rose) → (status ≡ Output → output_rose) → (s : Status) → s ≢ Memory → s ≡ status
+    → Shown asked t left_old left_new ended out_old out_new input_rose output_rose s
+shown asked t left_old left_new ended out_old out_new input_rose output_rose status words traversed written read fits input output s n e =
+    subst (Shown asked t left_old left_new ended out_old out_new input_rose output_rose) (sym e) (record {
       words = λ z. not_memory status (words z) (λ m. n (e ∙ m));
+      recorded = recorded_turned status status t (inl refl) fits;
       traversed = traversed;
       written = written;
       read = read;
@@ -103,6 +108,7 @@ failed_turn : (s now : Status) → now ≡ failed_report s → Turned s now
 failed_turn Ok now e = inr (inl (tt, e))
 failed_turn Partial now e = inr (inl (tt, e))
 failed_turn Limit now e = inr (inl (tt, e))
+failed_turn (Query at why) now e = inl e
 failed_turn (Site at) now e = inl e
 failed_turn Input now e = inl e
 failed_turn Output now e = inl e
@@ -126,6 +132,7 @@ pub not_reported : (s : Status) → IsReported (failed_report s) → ⊥
 not_reported Ok e = e
 not_reported Partial e = e
 not_reported Limit e = e
+not_reported (Query at why) e = e
 not_reported (Site at) e = e
 not_reported Input e = e
 not_reported Output e = e

@@ -7,16 +7,18 @@ use Rattle.reach_terms.specs.Record.{HasEnded}
 use Rattle.run_report.specs.Report.{failures}
 use Rattle.answer_core.specs.Codes.{HasEnd, IsReported, IsCalm, IsCoded, Fits, status_by, ended_status}
 use Rattle.answer_core.specs.declared.command.Command.{Command}
-use Rattle.answer_core.specs.Headline.{HasNoRecord, Traversed, Written}
+use Rattle.answer_core.specs.Command.{Asked}
+use Rattle.answer_core.specs.Headline.{HasNoRecord, IsRecorded, Traversed, Written}
 use Rattle.answer_core.specs.Input.{Saw, SawInput}
 use Rattle.answer_core.specs.Running.{Turned}
 use Rattle.answer_core.specs.declared.status.Status.{Status}
-use Rattle.answer_core.specs.declared.status.Status.TheVariants.{Ok, Partial, Limit, Site, Input, Output, Memory, Report, NotBuilt}
+use Rattle.answer_core.specs.declared.status.Status.TheVariants.{Ok, Partial, Limit, Query, Site, Input, Output, Memory, Report, NotBuilt}
 
 no_end : (s : Status) → HasEnd s → HasNoRecord s → ⊥
 no_end Ok h n = n
 no_end Partial h n = n
 no_end Limit h n = n
+no_end (Query at why) h n = h
 no_end (Site at) h n = h
 no_end Input h n = h
 no_end Output h n = h
@@ -39,6 +41,48 @@ traversed_turned c s now t (inl e) x = subst (λ z. Traversed c z t) (sym e) x
 traversed_turned c s now t (inr (inl h)) x = subst (λ z. Traversed c z t) (sym h.1) (traversed_report c s t h.0 x)
 traversed_turned c s now t (inr (inr e)) x = subst (λ z. Traversed c z t) (sym e) (traversed_memory c s t x)
 
+-- before the report there is a record or there is none, by the status
+recorded_some : (s : Status) (r : Record) → Fits s (Some r) → IsRecorded s (Some r)
+recorded_some Ok r f = tt
+recorded_some Partial r f = tt
+recorded_some Limit r f = tt
+recorded_some (Query at why) r f = f
+recorded_some (Site at) r f = f
+recorded_some Input r f = f
+recorded_some Output r f = tt
+recorded_some Memory r f = tt
+recorded_some Report r f = tt
+recorded_some NotBuilt r f = f
+
+recorded_none : (s : Status) → Fits s None → IsRecorded s None
+recorded_none Ok f = f
+recorded_none Partial f = f
+recorded_none Limit f = f
+recorded_none (Query at why) f = tt
+recorded_none (Site at) f = tt
+recorded_none Input f = tt
+recorded_none Output f = f
+recorded_none Memory f = tt
+recorded_none Report f = f
+recorded_none NotBuilt f = tt
+
+recorded : (s : Status) (t : Option Record) → Fits s t → IsRecorded s t
+recorded s (Some r) f = recorded_some s r f
+recorded s None f = recorded_none s f
+
+recorded_report : (s : Status) (t : Option Record) → HasEnd s → IsRecorded s t → IsRecorded Report t
+recorded_report s (Some r) h x = tt
+recorded_report s None h x = absurd (no_end s h x)
+
+recorded_memory : (t : Option Record) → IsRecorded Memory t
+recorded_memory (Some r) = tt
+recorded_memory None = tt
+
+pub recorded_turned : (s now : Status) (t : Option Record) → Turned s now → Fits s t → IsRecorded now t
+recorded_turned s now t (inl e) f = subst (λ z. IsRecorded z t) (sym e) (recorded s t f)
+recorded_turned s now t (inr (inl h)) f = subst (λ z. IsRecorded z t) (sym h.1) (recorded_report s t h.0 (recorded s t f))
+recorded_turned s now t (inr (inr e)) f = subst (λ z. IsRecorded z t) (sym e) (recorded_memory t)
+
 -- ---- what was written
 
 written_report : (c : Command) (s : Status) (t : Option Record) (old new : Option (List ℕ)) → HasEnd s → Written c s t old new → Written c Report t old new
@@ -56,36 +100,38 @@ written_turned c s now t old new (inr (inr e)) x = subst (λ z. Written c z t ol
 
 -- ---- what was read
 
-saw_report : (c : Command) (s : Status) (t : Option Record) (bytes : List ℕ) (ended : Type 0) → HasEnd s → Saw c s t bytes ended → Saw c Report t bytes ended
-saw_report c Ok t bytes ended h x = x
-saw_report c Partial t bytes ended h x = x
-saw_report c Limit t bytes ended h x = x
-saw_report c (Site at) t bytes ended h x = absurd h
-saw_report c Input t bytes ended h x = absurd h
-saw_report c Output t bytes ended h x = absurd h
-saw_report c Memory t bytes ended h x = absurd h
-saw_report c Report t bytes ended h x = x
-saw_report c NotBuilt t bytes ended h x = absurd h
+saw_report : (a : Asked) (s : Status) (t : Option Record) (bytes : List ℕ) (ended : Type 0) → HasEnd s → Saw a s t bytes ended → Saw a Report t bytes ended
+saw_report a Ok t bytes ended h x = x
+saw_report a Partial t bytes ended h x = x
+saw_report a Limit t bytes ended h x = x
+saw_report a (Query at why) t bytes ended h x = absurd h
+saw_report a (Site at) t bytes ended h x = absurd h
+saw_report a Input t bytes ended h x = absurd h
+saw_report a Output t bytes ended h x = absurd h
+saw_report a Memory t bytes ended h x = absurd h
+saw_report a Report t bytes ended h x = x
+saw_report a NotBuilt t bytes ended h x = absurd h
 
-saw_some : (c : Command) (s : Status) (r : Record) (bytes : List ℕ) (ended : Type 0) → Fits s (Some r) → Saw c s (Some r) bytes ended → Saw c Memory (Some r) bytes ended
-saw_some c Ok r bytes ended f x = x
-saw_some c Partial r bytes ended f x = x
-saw_some c Limit r bytes ended f x = x
-saw_some c (Site at) r bytes ended f x = absurd f
-saw_some c Input r bytes ended f x = absurd f
-saw_some c Output r bytes ended f x = x
-saw_some c Memory r bytes ended f x = x
-saw_some c Report r bytes ended f x = absurd f
-saw_some c NotBuilt r bytes ended f x = absurd f
+saw_some : (a : Asked) (s : Status) (r : Record) (bytes : List ℕ) (ended : Type 0) → Fits s (Some r) → Saw a s (Some r) bytes ended → Saw a Memory (Some r) bytes ended
+saw_some a Ok r bytes ended f x = x
+saw_some a Partial r bytes ended f x = x
+saw_some a Limit r bytes ended f x = x
+saw_some a (Query at why) r bytes ended f x = absurd f
+saw_some a (Site at) r bytes ended f x = absurd f
+saw_some a Input r bytes ended f x = absurd f
+saw_some a Output r bytes ended f x = x
+saw_some a Memory r bytes ended f x = x
+saw_some a Report r bytes ended f x = absurd f
+saw_some a NotBuilt r bytes ended f x = absurd f
 
-saw_memory : (c : Command) (s : Status) (t : Option Record) (bytes : List ℕ) (ended : Type 0) → Fits s t → Saw c s t bytes ended → Saw c Memory t bytes ended
-saw_memory c s (Some r) bytes ended f x = saw_some c s r bytes ended f x
-saw_memory c s None bytes ended f x = tt
+saw_memory : (a : Asked) (s : Status) (t : Option Record) (bytes : List ℕ) (ended : Type 0) → Fits s t → Saw a s t bytes ended → Saw a Memory t bytes ended
+saw_memory a s (Some r) bytes ended f x = saw_some a s r bytes ended f x
+saw_memory a s None bytes ended f x = tt
 
-pub saw_turned : (c : Command) (s now : Status) (t : Option Record) (old new : Option (List ℕ)) (ended : Type 0) → Turned s now → Fits s t → SawInput c s t old new ended → SawInput c now t old new ended
-saw_turned c s now t old new ended (inl e) f x = (x.0, x.1, subst (λ z. Saw c z t x.0 ended) (sym e) x.2)
-saw_turned c s now t old new ended (inr (inl h)) f x = (x.0, x.1, subst (λ z. Saw c z t x.0 ended) (sym h.1) (saw_report c s t x.0 ended h.0 x.2))
-saw_turned c s now t old new ended (inr (inr e)) f x = (x.0, x.1, subst (λ z. Saw c z t x.0 ended) (sym e) (saw_memory c s t x.0 ended f x.2))
+pub saw_turned : (a : Asked) (s now : Status) (t : Option Record) (old new : Option (List ℕ)) (ended : Type 0) → Turned s now → Fits s t → SawInput a s t old new ended → SawInput a now t old new ended
+saw_turned a s now t old new ended (inl e) f x = (x.0, x.1, subst (λ z. Saw a z t x.0 ended) (sym e) x.2)
+saw_turned a s now t old new ended (inr (inl h)) f x = (x.0, x.1, subst (λ z. Saw a z t x.0 ended) (sym h.1) (saw_report a s t x.0 ended h.0 x.2))
+saw_turned a s now t old new ended (inr (inr e)) f x = (x.0, x.1, subst (λ z. Saw a z t x.0 ended) (sym e) (saw_memory a s t x.0 ended f x.2))
 
 -- ---- the code
 
@@ -112,6 +158,7 @@ coded : (limit : ℕ) (s : Status) (r : Record) → Fits s (Some r) → (HasEnd 
 coded limit Ok r f h = ok_is r.queued (failures r.entries) f
 coded limit Partial r f h = partial_is r.queued (failures r.entries) f
 coded limit Limit r f h = let n = limit_is r.queued (failures r.entries) f in (n, at_limit r limit (h tt) n)
+coded limit (Query at why) r f h = tt
 coded limit (Site at) r f h = tt
 coded limit Input r f h = tt
 coded limit Output r f h = tt
@@ -154,6 +201,7 @@ calm_same : (s : Status) (i o r : Type 0) → (s ≢ Input → s ≢ Memory → 
 calm_same Ok i o r f g h = (f (λ e. absurd (cc)) (λ e. absurd (cc)), g (λ e. absurd (cc)), h tt)
 calm_same Partial i o r f g h = (f (λ e. absurd (cc)) (λ e. absurd (cc)), g (λ e. absurd (cc)), h tt)
 calm_same Limit i o r f g h = (f (λ e. absurd (cc)) (λ e. absurd (cc)), g (λ e. absurd (cc)), h tt)
+calm_same (Query at why) i o r f g h = (f (λ e. absurd (cc)) (λ e. absurd (cc)), g (λ e. absurd (cc)))
 calm_same (Site at) i o r f g h = (f (λ e. absurd (cc)) (λ e. absurd (cc)), g (λ e. absurd (cc)))
 calm_same Input i o r f g h = g (λ e. absurd (cc))
 calm_same Output i o r f g h = f (λ e. absurd (cc)) (λ e. absurd (cc))

@@ -3,12 +3,13 @@ use Rattle.std.specs.Prelude.{ℕ, ◌≡◌, ◌≢◌, List, [], ◌∷◌, Op
 use Rattle.reach_terms.specs.declared.record.Record.{Record}
 use Rattle.run_report.specs.Report.{failures}
 use Rattle.answer_core.specs.declared.status.Status.{Status}
-use Rattle.answer_core.specs.declared.status.Status.TheVariants.{Ok, Partial, Limit, Site, Input, Output, Memory, Report, NotBuilt}
+use Rattle.answer_core.specs.declared.status.Status.TheVariants.{Ok, Partial, Limit, Query, Site, Input, Output, Memory, Report, NotBuilt}
 
 abbrev pub code_of : Status → ℕ
 code_of Ok = 0
 code_of Partial = 3
 code_of Limit = 4
+code_of (Query at why) = 5
 code_of (Site at) = 6
 code_of Input = 7
 code_of Output = 8
@@ -37,6 +38,7 @@ abbrev pub HasEnd : Status → Type 0
 HasEnd Ok = Unit {0}
 HasEnd Partial = Unit {0}
 HasEnd Limit = Unit {0}
+HasEnd (Query at why) = ⊥
 HasEnd (Site at) = ⊥
 HasEnd Input = ⊥
 HasEnd Output = ⊥
@@ -50,6 +52,7 @@ abbrev pub IsCoded : ℕ → Status → Record → Type 0
 IsCoded limit Ok r = (r.queued ≡ []) × (failures r.entries ≡ [])
 IsCoded limit Partial r = (r.queued ≡ []) × (failures r.entries ≢ [])
 IsCoded limit Limit r = (r.queued ≢ []) × (length r.entries ≡ limit)
+IsCoded limit (Query at why) r = Unit {0}
 IsCoded limit (Site at) r = Unit {0}
 IsCoded limit Input r = Unit {0}
 IsCoded limit Output r = Unit {0}
@@ -57,11 +60,12 @@ IsCoded limit Memory r = Unit {0}
 IsCoded limit Report r = Unit {0}
 IsCoded limit NotBuilt r = Unit {0}
 
--- before the report: the status is that of the record, or there is none
+-- before the report: with a record the status is that of a run that ended so, or of one that was halted; without one it is one that has none
 abbrev pub Fits : Status → Option Record → Type 0
 Fits Ok (Some r) = ended_status r ≡ Ok
 Fits Partial (Some r) = ended_status r ≡ Partial
 Fits Limit (Some r) = ended_status r ≡ Limit
+Fits (Query at why) (Some r) = ⊥
 Fits (Site at) (Some r) = ⊥
 Fits Input (Some r) = ⊥
 Fits Output (Some r) = Unit {0}
@@ -71,6 +75,7 @@ Fits NotBuilt (Some r) = ⊥
 Fits Ok None = ⊥
 Fits Partial None = ⊥
 Fits Limit None = ⊥
+Fits (Query at why) None = Unit {0}
 Fits (Site at) None = Unit {0}
 Fits Input None = Unit {0}
 Fits Output None = ⊥
@@ -83,6 +88,7 @@ abbrev pub IsReported : Status → Type 0
 IsReported Ok = Unit {0}
 IsReported Partial = Unit {0}
 IsReported Limit = Unit {0}
+IsReported (Query at why) = ⊥
 IsReported (Site at) = ⊥
 IsReported Input = ⊥
 IsReported Output = ⊥
@@ -97,6 +103,7 @@ abbrev pub IsCalm : Status → (input output report : Type 0) → Type 0
 IsCalm Ok input output report = input × output × report
 IsCalm Partial input output report = input × output × report
 IsCalm Limit input output report = input × output × report
+IsCalm (Query at why) input output report = input × output
 IsCalm (Site at) input output report = input × output
 IsCalm Input input output report = output
 IsCalm Output input output report = input
@@ -104,11 +111,25 @@ IsCalm Memory input output report = Unit {0}
 IsCalm Report input output report = input × output
 IsCalm NotBuilt input output report = input × output
 
+-- the query is refused, or memory ran out
+abbrev pub IsRefusal : Status → Type 0
+IsRefusal Ok = ⊥
+IsRefusal Partial = ⊥
+IsRefusal Limit = ⊥
+IsRefusal (Query at why) = Unit {0}
+IsRefusal (Site at) = ⊥
+IsRefusal Input = ⊥
+IsRefusal Output = ⊥
+IsRefusal Memory = Unit {0}
+IsRefusal Report = ⊥
+IsRefusal NotBuilt = ⊥
+
 -- a run that came to its end and was reported, or want of memory
 abbrev pub IsWhole : Status → Type 0
 IsWhole Ok = Unit {0}
 IsWhole Partial = Unit {0}
 IsWhole Limit = Unit {0}
+IsWhole (Query at why) = ⊥
 IsWhole (Site at) = ⊥
 IsWhole Input = ⊥
 IsWhole Output = ⊥

@@ -16,7 +16,7 @@ use Rattle.traverse_core.specs.Query.{patterns_of, selected_names}
 use Rattle.answer_core.specs.declared.command.Command.{Command}
 use Rattle.answer_core.specs.Codes.{HasEnd}
 use Rattle.answer_core.specs.declared.status.Status.{Status}
-use Rattle.answer_core.specs.declared.status.Status.TheVariants.{Ok, Partial, Limit, Site, Input, Output, Memory, Report, NotBuilt}
+use Rattle.answer_core.specs.declared.status.Status.TheVariants.{Ok, Partial, Limit, Query, Site, Input, Output, Memory, Report, NotBuilt}
 
 -- the most bytes of a body
 abbrev pub body_limit : ℕ
@@ -37,6 +37,7 @@ abbrev pub HasRecord : Status → Type 0
 HasRecord Ok = Unit {0}
 HasRecord Partial = Unit {0}
 HasRecord Limit = Unit {0}
+HasRecord (Query at why) = ⊥
 HasRecord (Site at) = ⊥
 HasRecord Input = ⊥
 HasRecord Output = Unit {0}
@@ -48,12 +49,18 @@ abbrev pub HasNoRecord : Status → Type 0
 HasNoRecord Ok = ⊥
 HasNoRecord Partial = ⊥
 HasNoRecord Limit = ⊥
+HasNoRecord (Query at why) = Unit {0}
 HasNoRecord (Site at) = Unit {0}
 HasNoRecord Input = Unit {0}
 HasNoRecord Output = ⊥
 HasNoRecord Memory = Unit {0}
 HasNoRecord Report = ⊥
 HasNoRecord NotBuilt = Unit {0}
+
+-- the same, by whether there is one
+abbrev pub IsRecorded : Status → Option Record → Type 0
+IsRecorded status (Some r) = HasRecord status
+IsRecorded status None = HasNoRecord status
 
 -- the record is closed under the links that it knows, all in it is reachable by them, and a run that
 -- came to its end has ended: nothing is queued, or as many links were looked up as may be
@@ -87,7 +94,7 @@ pub record IsBeyond (out : Link → Option Outcome) (r : Record) (seeds : List T
   pub reachable : (u : Text) → IsIn links u → IsReachable (HasOutcome out) (Unreached r.entries) seeds rule u
   pub more : limit < length links
 
--- the record is faithful to the web, in which no link is unreachable; where nothing is queued the
+-- the record is faithful to the web, and no link in it is unreachable; where nothing is queued the
 -- links looked up are exactly the reachable ones, which are then no more than the limit; and where the
 -- limit is reached and a link is queued they are more
 pub record IsOfWeb (c : Command) (web : Web) (r : Record) : Type 0 where

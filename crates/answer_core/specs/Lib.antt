@@ -1,9 +1,8 @@
-pub mod Bodies
 pub mod Codes
 pub mod Command
 pub mod Headline
 pub mod Input
-pub mod Query
+pub mod Queries
 pub mod Reported
 pub mod Running
 pub mod Shown

@@ -4,14 +4,27 @@ use Rattle.std.specs.Io.KnownBytes.{append_known}
 use Rattle.reach_terms.specs.declared.record.Record.{Record}
 use Rattle.run_report.specs.Report.{IsReport}
 use Rattle.answer_core.specs.Codes.{code_of, ended_status, Fits}
+use Rattle.answer_core.specs.declared.status.QueryWhy.{QueryWhy}
+use Rattle.answer_core.specs.declared.status.QueryWhy.TheVariants as why
 use Rattle.answer_core.specs.declared.status.Status.{Status}
-use Rattle.answer_core.specs.declared.status.Status.TheVariants.{Ok, Partial, Limit, Site, Input, Output, Memory, Report, NotBuilt}
+use Rattle.answer_core.specs.declared.status.Status.TheVariants.{Ok, Partial, Limit, Query, Site, Input, Output, Memory, Report, NotBuilt}
 
 -- the line for want of memory
 abbrev pub memory_line : List ℕ
 memory_line = codes "status 10 memory\n"
 
--- the place of a site's fault
+-- the word for the reason of a refusal
+abbrev pub why_word : QueryWhy → List ℕ
+why_word why.Syntax = codes "syntax"
+why_word why.Unsupported = codes "unsupported"
+why_word why.Deep = codes "deep"
+why_word why.Long = codes "long"
+
+-- the line of a query that is refused: the place of its first fault, and the reason
+abbrev pub query_line : ℕ → QueryWhy → List ℕ
+query_line at reason = codes "status 5 query at " ++ (decimal at ++ (codes " " ++ (why_word reason ++ codes "\n")))
+
+-- the line of an input that is no site: the place of its first fault
 abbrev pub site_line : ℕ → List ℕ
 site_line at = codes "status 6 site at " ++ (decimal at ++ codes "\n")
 
@@ -22,6 +35,7 @@ abbrev pub IsLineOf : Status → List ℕ → Type 0
 IsLineOf Ok text = ⊥
 IsLineOf Partial text = ⊥
 IsLineOf Limit text = ⊥
+IsLineOf (Query at reason) text = text ≡ query_line at reason
 IsLineOf (Site at) text = text ≡ site_line at
 IsLineOf Input text = text ≡ codes "status 7 input\n"
 IsLineOf Output text = ⊥
@@ -75,6 +89,7 @@ abbrev pub Reported : (Status → Type 0) → Status → Option Record → Optio
 Reported shown Ok trace old new failed = Told Ok trace old new
 Reported shown Partial trace old new failed = Told Partial trace old new
 Reported shown Limit trace old new failed = Told Limit trace old new
+Reported shown (Query at reason) trace old new failed = ToldOrFailed (Query at reason) trace old new failed
 Reported shown (Site at) trace old new failed = ToldOrFailed (Site at) trace old new failed
 Reported shown Input trace old new failed = ToldOrFailed Input trace old new failed
 Reported shown Output trace old new failed = ToldOrFailed Output trace old new failed

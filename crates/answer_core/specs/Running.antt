@@ -7,12 +7,16 @@ use Rattle.web_port.specs.SiteWeb.{site_fetch, web_of_site}
 use Rattle.traverse_core.specs.declared.alone.Ran.{Ran}
 use Rattle.traverse_core.specs.declared.alone.Ran.TheVariants as ran
 use Rattle.traverse_core.specs.Run.{Run}
+use Rattle.sparql_parser.specs.Answer.{most_bytes}
+use Rattle.sparql_parser.specs.declared.fault.QueryFault.{QueryFault}
+use Rattle.sparql_parser.specs.declared.fault.QueryFault.TheVariants as faults
 use Rattle.answer_core.specs.Codes.{HasEnd, ended_status}
 use Rattle.answer_core.specs.declared.command.Command.{Command}
 use Rattle.answer_core.specs.Headline.{FitsWeb, body_limit}
 use Rattle.answer_core.specs.Reported.{GrewByPrefix}
+use Rattle.answer_core.specs.declared.status.QueryWhy.TheVariants as why
 use Rattle.answer_core.specs.declared.status.Status.{Status}
-use Rattle.answer_core.specs.declared.status.Status.TheVariants.{Ok, Partial, Limit, Site, Input, Output, Memory, Report, NotBuilt}
+use Rattle.answer_core.specs.declared.status.Status.TheVariants.{Ok, Partial, Limit, Query, Site, Input, Output, Memory, Report, NotBuilt}
 
 -- the command that a run is of
 abbrev pub asked : Run → Command
@@ -34,6 +38,7 @@ abbrev pub failed_report : Status → Status
 failed_report Ok = Report
 failed_report Partial = Report
 failed_report Limit = Report
+failed_report (Query at why) = Query at why
 failed_report (Site at) = Site at
 failed_report Input = Input
 failed_report Output = Output
@@ -45,6 +50,14 @@ failed_report NotBuilt = NotBuilt
 abbrev pub WroteReport : Status → Status → List ℕ → Option (List ℕ) → Option (List ℕ) → Type 0 → Type 0
 WroteReport status now text old new failed =
     ((now ≡ status) × (new ≡ append_known old text)) ⊎ (((now ≡ failed_report status) × failed × GrewByPrefix old new text) ⊎ ((now ≡ Memory) × GrewByPrefix old new text))
+
+-- the status of a query's fault
+abbrev pub fault_status : QueryFault → Status
+fault_status (faults.Syntax at) = Query at why.Syntax
+fault_status (faults.Unsupported at) = Query at why.Unsupported
+fault_status (faults.Deep at) = Query at why.Deep
+fault_status faults.LongQuery = Query most_bytes why.Long
+fault_status faults.Memory = Memory
 
 -- the status is that one
 abbrev pub Is : Status → Status → Type 0

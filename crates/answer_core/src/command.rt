@@ -1,15 +1,22 @@
-ghost use Rattle.std.specs.Prelude.{◌≡◌, IfOk, IfSome, map, string_bytes};
+ghost use Rattle.std.specs.Prelude.{◌≡◌, IfOk, IfSome, map, option_map, string_bytes};
 ghost use Rattle.link_uri.specs.Links.{AreLinks};
 ghost use Rattle.answer_core.specs.Command as spec;
 
-use crate::query::query_of;
-use crate::whole_query::whole_query;
 use crate::words::{Words, given};
 use algebra_core::Query;
 use link_uri::{Link, link_of};
 use rdf_terms::{Memory, Seq};
 use reach_criteria::Criterion;
 use std::alloc::Global;
+
+/// What the words say; the query is still a text.
+#[derive(Drop)]
+pub(crate) struct Asked<'a> {
+    pub query: &'a str,
+    pub seeds: Seq<Link>,
+    pub criterion: Criterion,
+    pub limit: u64,
+}
 
 /// What a run is asked for.
 #[derive(Drop)]
@@ -35,46 +42,33 @@ fn links_of(alloc: Global, seeds: &[String]) -> Result<Option<Seq<Link>>, Memory
     Ok(Some(links))
 }
 
-fn command_of(
-    alloc: Global,
-    criterion: Criterion,
-    limit: u64,
-    query: &str,
-    seeds: &[String],
-) -> Result<Option<Command>, Memory>
-    ensures own { IfOk result (λ command. IfSome command (λ c. AreLinks c.seeds)) }
-    ensures value { IfOk result (λ command. command ≡ spec.command_given
-        (record { criterion = criterion; limit = limit; query = query.now; seeds = map string_bytes seeds.now })) }
+fn asked_given<'a>(alloc: Global, words: Words<'a>) -> Result<Option<Asked<'a>>, Memory>
+    ensures own { IfOk result (λ asked. IfSome asked (λ a. AreLinks a.seeds)) }
+    ensures value { IfOk result (λ asked. option_map spec.view asked ≡ spec.asked_given
+        (record { criterion = words.entry.criterion; limit = words.entry.limit; query = words.entry.query.now; seeds = map string_bytes words.entry.seeds.now })) }
 {
-    let Some(query) = query_of(alloc, query)? else {
-        return Ok(None);
-    };
-    let Some(seeds) = links_of(alloc, seeds)? else {
-        return Ok(None);
-    };
-    Ok(Some(Command {
-        query: whole_query(alloc, &query)?,
-        seeds,
-        criterion,
-        limit,
-    }))
+    match links_of(alloc, words.seeds)? {
+        Some(seeds) => Ok(Some(Asked {
+            query: words.query,
+            seeds,
+            criterion: words.criterion,
+            limit: words.limit,
+        })),
+        None => Ok(None),
+    }
 }
 
-/// The command of the words, or none where they are not of the built form. It costs time linear in
-/// the words.
-pub(crate) fn read_words(alloc: Global, words: &[String]) -> Result<Option<Command>, Memory>
-    ensures own { IfOk result (λ command. IfSome command (λ c. AreLinks c.seeds)) }
-    ensures value { IfOk result (λ command. command ≡ spec.command_of (map string_bytes words.now)) }
+/// What the words say, or none where they are not of the built form or a seed has no link. It costs
+/// time linear in the words.
+pub(crate) fn read_words<'a>(
+    alloc: Global,
+    words: &'a [String],
+) -> Result<Option<Asked<'a>>, Memory>
+    ensures own { IfOk result (λ asked. IfSome asked (λ a. AreLinks a.seeds)) }
+    ensures value { IfOk result (λ asked. option_map spec.view asked ≡ spec.asked_of (map string_bytes words.now)) }
 {
     match given(words) {
-        Some(
-            Words {
-                criterion,
-                limit,
-                query,
-                seeds,
-            },
-        ) => command_of(alloc, criterion, limit, query, seeds),
+        Some(words) => asked_given(alloc, words),
         None => Ok(None),
     }
 }

@@ -9,19 +9,16 @@
 #![tactic(auto)]
 
 mod answer;
-mod bodies;
 mod command;
 mod limit;
-mod pieces;
-mod query;
+mod querying;
 mod report;
 mod running;
 mod status;
 #[cfg(test)]
 mod tests;
-mod whole_query;
 mod words;
 
 pub use crate::answer::answer_alone;
 pub use crate::running::Answer;
-pub use crate::status::Status;
+pub use crate::status::{QueryWhy, Status};

@@ -7,7 +7,7 @@ ghost use Rattle.answer_core.specs.Running.{Turned, WroteReport};
 ghost use Rattle.answer_core.specs.Reported as spec;
 ghost use Rattle.answer_core.specs.Running as running;
 
-use crate::Status;
+use crate::{QueryWhy, Status};
 use outer_ports::{Sink, SinkFault, write_all};
 use rdf_terms::{ByteBuf, Memory};
 use reach_terms::Record;
@@ -26,12 +26,36 @@ fn site_line(alloc: Global, at: usize) -> Result<ByteBuf, Memory>
     Ok(text)
 }
 
+fn why_word(why: QueryWhy) -> &'static [u8]
+    ensures { result.now ≡ spec.why_word why }
+{
+    match why {
+        QueryWhy::Syntax => b"syntax",
+        QueryWhy::Unsupported => b"unsupported",
+        QueryWhy::Deep => b"deep",
+        QueryWhy::Long => b"long",
+    }
+}
+
+fn query_line(alloc: Global, at: usize, why: QueryWhy) -> Result<ByteBuf, Memory>
+    ensures { IfOk result (λ text. text ≡ spec.query_line at why) }
+{
+    let mut text = ByteBuf::from_slice(alloc, b"status 5 query at ")?;
+    let digits = at.to_string(alloc)?;
+    text.extend(digits.as_bytes())?;
+    text.extend(b" ")?;
+    text.extend(why_word(why))?;
+    text.extend(b"\n")?;
+    Ok(text)
+}
+
 // The report of a run without a record.
 fn line_of(alloc: Global, status: Status) -> Result<ByteBuf, Memory>
     requires { HasNoRecord status }
     ensures { IfOk result (IsLineOf status) }
 {
     match status {
+        Status::Query { at, why } => query_line(alloc, at, why),
         Status::Site { at } => site_line(alloc, at),
         Status::Input => ByteBuf::from_slice(alloc, b"status 7 input\n"),
         Status::Memory => ByteBuf::from_slice(alloc, MEMORY_LINE),

@@ -4,6 +4,19 @@ ghost use Rattle.answer_core.specs.Codes.{code_of, ended_status};
 use reach_terms::Record;
 use run_report::has_failed;
 
+/// Why a query is refused (docs/FORMATS.md, "Queries").
+#[derive(Clone, Copy, Debug, PartialEq, Eq)]
+pub enum QueryWhy {
+    /// It isn't of the language.
+    Syntax,
+    /// It is of SPARQL, and not of the profile.
+    Unsupported,
+    /// More brackets are open, or more groups stand in it, than may be.
+    Deep,
+    /// It has more than 65,536 bytes.
+    Long,
+}
+
 /// How a run ended.
 #[derive(Clone, Copy, Debug, PartialEq, Eq)]
 pub enum Status {
@@ -13,6 +26,8 @@ pub enum Status {
     Partial,
     /// As many links were looked up as may be, and more are queued.
     Limit,
+    /// The query is refused; `at` counts the bytes before its first fault.
+    Query { at: usize, why: QueryWhy },
     /// The input is no site; `at` counts the bytes before the first fault.
     Site { at: usize },
     /// Reading the input failed.
@@ -23,7 +38,7 @@ pub enum Status {
     Memory,
     /// Writing the report failed, after a run that came to its end.
     Report,
-    /// The words, the query or a body of the site are of a form that isn't built yet.
+    /// The words are of a form that isn't built yet, or a seed has no link.
     NotBuilt,
 }
 
@@ -36,6 +51,7 @@ impl Status {
             Status::Ok => 0,
             Status::Partial => 3,
             Status::Limit => 4,
+            Status::Query { .. } => 5,
             Status::Site { at: _ } => 6,
             Status::Input => 7,
             Status::Output => 8,

@@ -16,6 +16,7 @@ fn rows(alloc: Global) -> Result<Vec<String>, Memory> {
     tables::writes(alloc, &mut rows)?;
     tables::reports(alloc, &mut rows)?;
     tables::twice(alloc, &mut rows)?;
+    tables::refusals(alloc, &mut rows)?;
     Ok(rows)
 }
 

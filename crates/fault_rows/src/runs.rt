@@ -12,15 +12,10 @@ pub(crate) const SITE: &str =
 const ANSWER: &str =
     "{\"head\":{\"vars\":[\"n\"]},\"results\":{\"bindings\":[\n{\"n\":{\"type\":\"literal\",\"value\":\"Ann\"}}\n]}}\n";
 
-const WORDS: [&'static str; 7] = [
-    "site",
-    "--criterion",
-    "none",
-    "--workers",
-    "0",
-    "SELECT ?n WHERE { ?s <http://v.test/name> ?n }",
-    "http://a.test/1#me",
-];
+const QUERY: &str = "SELECT ?n WHERE { ?s <http://v.test/name> ?n }";
+
+/// A query that is refused at the dot, byte 18.
+pub(crate) const REFUSED: &str = "SELECT ?n WHERE { . }";
 
 /// More room than any text needs.
 pub(crate) const ROOM: u64 = 1000;
@@ -33,9 +28,18 @@ pub(crate) struct Faults {
     pub(crate) report_room: u64,
 }
 
-fn words(alloc: Global) -> Result<Vec<String>, Memory> {
+fn words(alloc: Global, query: &str) -> Result<Vec<String>, Memory> {
+    let all = [
+        "site",
+        "--criterion",
+        "none",
+        "--workers",
+        "0",
+        query,
+        "http://a.test/1#me",
+    ];
     let mut words = Vec::new(alloc);
-    for word in &WORDS {
+    for word in &all {
         words.push(String::from_str(alloc, word)?)?;
     }
     Ok(words)
@@ -77,14 +81,25 @@ fn ended_text(
     )?)
 }
 
-/// How a run over an input ends, under a name. It is read by 16 bytes.
+/// How a run over an input ends, under a name.
 pub(crate) fn run(
     alloc: Global,
     name: &str,
     input: &str,
     faults: Faults,
 ) -> Result<String, Memory> {
-    let words = words(alloc)?;
+    ask(alloc, name, QUERY, input, faults)
+}
+
+/// How a run of a query over an input ends, under a name. The input is read by 16 bytes.
+pub(crate) fn ask(
+    alloc: Global,
+    name: &str,
+    query: &str,
+    input: &str,
+    faults: Faults,
+) -> Result<String, Memory> {
+    let words = words(alloc, query)?;
     let bytes = ByteBuf::from_slice(alloc, input.as_bytes())?;
     let mut source = MemorySource::new(bytes, 16, faults.reads);
     let out = MemorySink::new(alloc, faults.room);

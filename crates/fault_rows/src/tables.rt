@@ -1,5 +1,5 @@
 //! A row for each read and each write that may fail.
-use crate::runs::{Faults, ROOM, SITE, run};
+use crate::runs::{Faults, REFUSED, ROOM, SITE, ask, run};
 use rdf_terms::Memory;
 use std::alloc::Global;
 
@@ -65,5 +65,40 @@ pub(crate) fn twice(alloc: Global, rows: &mut Vec<String>) -> Result<(), Memory>
         report_room: 3,
     };
     rows.push(run(alloc, "room 50, and the report fails", SITE, no_output)?)?;
+    Ok(())
+}
+
+/// A query that is refused comes behind the input and the site, and its code stays where the report fails.
+pub(crate) fn refusals(alloc: Global, rows: &mut Vec<String>) -> Result<(), Memory> {
+    let calm = Faults {
+        reads: Vec::new(alloc),
+        room: ROOM,
+        report_room: ROOM,
+    };
+    rows.push(ask(alloc, "a refused query", REFUSED, SITE, calm)?)?;
+    let failing = reads_and_reports(alloc, 99)?;
+    rows.push(ask(
+        alloc,
+        "a refused query, and the report fails",
+        REFUSED,
+        SITE,
+        failing,
+    )?)?;
+    let no_input = reads_and_reports(alloc, 8)?;
+    rows.push(ask(
+        alloc,
+        "a refused query, and read 8 fails",
+        REFUSED,
+        SITE,
+        no_input,
+    )?)?;
+    let no_site = reads_and_reports(alloc, 99)?;
+    rows.push(ask(
+        alloc,
+        "a refused query, and no site",
+        REFUSED,
+        "site 2\n",
+        no_site,
+    )?)?;
     Ok(())
 }

@@ -12,7 +12,10 @@ use Rattle.link_uri.specs.declared.heard.Heard.{Heard}
 use Rattle.link_uri.specs.declared.heard.Heard.TheVariants.{Reply as Replied, Malformed, TooLong, Never}
 use Rattle.link_uri.specs.Heard.{is_uncoded, is_turtle, is_ntriples}
 use Rattle.doc_reader.specs.Reading.{ntriples_reading}
-use Rattle.doc_reader.specs.Outcome.{is_redirect, location_link, moved_or_refused, document_or_refused, text_outcome, body_outcome, reply_outcome, heard_outcome, scheme_outcome, outcome}
+use Rattle.turtle_scan.specs.declared.fault.Fault.{Fault}
+use Rattle.turtle_scan.specs.declared.fault.Fault.TheVariants.{Syntax, Deep}
+use Rattle.turtle_reader.specs.Reading.{turtle_reading}
+use Rattle.doc_reader.specs.Outcome.{is_redirect, location_link, moved_or_refused, ntriples_outcome, turtle_outcome, text_outcome, body_outcome, reply_outcome, heard_outcome, scheme_outcome, outcome}
 use Rattle.reach_terms.specs.declared.outcome.Outcome.{Outcome}
 use Rattle.reach_terms.specs.declared.outcome.Outcome.TheVariants.{Document, Moved, Refused}
 use Rattle.reach_terms.specs.declared.outcome.Why.TheVariants as why
@@ -165,12 +168,17 @@ moved_one : (to : Option Link) → IsOne (moved_or_refused to)
 moved_one (Some to) = refl
 moved_one None = refl
 
-document_one : (r : Result (List Triple) ℕ) → IsOne (document_or_refused r)
-document_one (Ok triples) = refl
-document_one (Err at) = refl
+ntriples_one : (r : Result (List Triple) ℕ) → IsOne (ntriples_outcome r)
+ntriples_one (Ok triples) = refl
+ntriples_one (Err at) = refl
+
+turtle_one : (r : Result (List Triple) Fault) → IsOne (turtle_outcome r)
+turtle_one (Ok triples) = refl
+turtle_one (Err (Syntax at)) = refl
+turtle_one (Err (Deep at)) = refl
 
 text_one : (link : Link) (reply : Reply) → IsOne (text_outcome link reply)
-text_one link reply = pick (is_turtle reply) _ _ refl (document_one (ntriples_reading link.text reply.body))
+text_one link reply = pick (is_turtle reply) _ _ (turtle_one (turtle_reading link.text link.text reply.body)) (ntriples_one (ntriples_reading link.text reply.body))
 
 body_one : (link : Link) (reply : Reply) (limit : ℕ) → IsOne (body_outcome link reply limit)
 body_one link reply limit =

@@ -1,7 +1,0 @@
-use Rattle.std.proofs.Common.{◌≡◌, true, take}
-use Rattle.std.specs.List.{list_all}
-use Rattle.plain_triples.specs.Pieces.{is_iri_byte}
-use Rattle.plain_triples.proofs.pieces.are_iri_bytes.Given as goal
-
-abbrev pub invariant-loop-b : goal.invariant-loop-b
-invariant-loop-b l = list_all is_iri_byte (take l.b-index l.text) ≡ true
