@@ -1,9 +1,12 @@
 //! Prints how whole runs with one fetcher end: what each found, what it wrote, and what its fetcher
-//! counted. `stdout` holds what has to come.
+//! counted; and what the calls of traversals answer that are made one by one. `stdout` holds what has
+//! to come.
 #![tactic(auto)]
 
+mod calls;
 mod runs;
 mod shown;
+mod stepped;
 mod webs;
 
 use rdf_terms::Memory;
@@ -20,6 +23,12 @@ fn rows(alloc: Global) -> Result<Vec<String>, Memory> {
     rows.push(runs::fails_to_connect(alloc)?)?;
     rows.push(runs::refuses_a_scheme(alloc)?)?;
     rows.push(runs::stops_at_the_limit(alloc)?)?;
+    rows.push(stepped::one_document(alloc)?)?;
+    rows.push(stepped::one_document_as_commands(alloc)?)?;
+    rows.push(stepped::redirect(alloc)?)?;
+    rows.push(stepped::redirect_as_commands(alloc)?)?;
+    rows.push(stepped::halted(alloc)?)?;
+    rows.push(stepped::failed(alloc)?)?;
     Ok(rows)
 }
 

@@ -50,7 +50,7 @@ fn push_entry(alloc: Global, text: &mut String, entry: &Entry) -> Result<(), Mem
 }
 
 /// The entries, and the links that are queued, each on a line.
-fn record_text(alloc: Global, record: &Record) -> Result<String, Memory> {
+pub(crate) fn record_text(alloc: Global, record: &Record) -> Result<String, Memory> {
     let mut text = String::new(alloc);
     for entry in record.entries.as_slice() {
         push_entry(alloc, &mut text, entry)?;
@@ -71,7 +71,7 @@ fn ran_text(ran: Ran) -> &'static str {
     }
 }
 
-fn halt_text(halted: Option<Halt>) -> &'static str {
+pub(crate) fn halt_text(halted: Option<Halt>) -> &'static str {
     match halted {
         None => "no",
         Some(Halt::Output) => "output",
@@ -79,7 +79,7 @@ fn halt_text(halted: Option<Halt>) -> &'static str {
     }
 }
 
-fn sink_text(sink: &MemorySink) -> &str {
+pub(crate) fn sink_text(sink: &MemorySink) -> &str {
     match str::from_utf8(sink.content()) {
         Ok(text) => text,
         Err(_) => "no text",

@@ -13,6 +13,7 @@ mod documents;
 mod expressions;
 mod iri;
 mod link;
+mod queries;
 mod site;
 mod terms;
 mod tokens;
@@ -37,6 +38,7 @@ fn answer_of_kind(alloc: Global, kind: &str, line: &str) -> Result<String, Memor
         "ntriples" => documents::ntriples(alloc, line),
         "turtle_tokens" => tokens::answer(alloc, line),
         "sparql_tokens" => tokens::query_answer(alloc, line),
+        "sparql" => queries::answer(alloc, line),
         "turtle" => turtle::answer(alloc, line),
         _ => Ok(String::from_str(alloc, "no kind")?),
     }
