@@ -1,11 +1,11 @@
 #!/usr/bin/env python3
-"""Checks code 12 of the built program against its definition (docs/FORMATS.md, "The built words" and "The built bodies") over the
+"""Checks code 12 of the built program against its definition (docs/FORMATS.md, "The built words") over the
 random cases of the oracle's fuzz.py: it comes exactly where the definition says, with nothing written and its one line of report.
 
     left_out.py PROGRAM ORACLE SEED COUNT FEATURES
 
-It prints how many cases were left out, and for which part of the definition. Only `link_of`, for the seeds, and `read_site`, for
-what the bodies are, are the oracle's; the forms are written out here."""
+It prints how many cases were left out, and for which part of the definition. Only `link_of`, for the seeds, is
+the oracle's; the form of the words is written out here."""
 import collections
 import random
 import re
@@ -16,15 +16,6 @@ sys.path.insert(0, oracle)
 sys.dont_write_bytecode = True
 import fuzz  # noqa: E402  (of the oracle)
 from ltq_oracle.link import link_of  # noqa: E402
-from ltq_oracle.site import SiteFault, read_site  # noqa: E402
-
-# a character from 21 to 7E that an IRI has without an escape
-CHARACTER = r'[!#-;=?-\[\]_a-z~]'
-IRI = "<http://" + CHARACTER + "+>"
-VARIABLE = r"\?[a-z]+"
-PLACE = "(?:%s|%s)" % (VARIABLE, IRI)
-QUERY = re.compile(r"SELECT %s WHERE \{ %s %s %s \}" % (VARIABLE, PLACE, PLACE, PLACE))
-
 
 def words_part(words):
     """The first part of the words that is not of the built form, or None."""
@@ -37,7 +28,7 @@ def words_part(words):
         rest = rest[2:]
     if rest[:2] != ["--workers", "0"]:
         return "the workers"
-    if len(rest) < 3 or len(rest[2].encode()) > 65536 or not QUERY.fullmatch(rest[2]):
+    if len(rest) < 3:
         return "the query"
     seeds = rest[3:]
     if not 1 <= len(seeds) <= 1000 or any(link_of(text) is None for text in seeds):
@@ -45,38 +36,10 @@ def words_part(words):
     return None
 
 
-def is_wanted(reply):
-    return (reply.status == 200 and (reply.coding is None or reply.coding.lower() == b"identity")
-            and media(reply) in (b"text/turtle", b"application/n-triples"))
-
-
-def media(reply):
-    return (reply.media or b"").split(b";")[0].strip(b" \t").lower()
-
-
-def bodies_part(site):
-    """What a body under a wanted head is, where it is not of the built form, or None."""
-    for reply in site.values():
-        if is_wanted(reply) and media(reply) == b"text/turtle":
-            return "a body of Turtle"
-    return None
-
-
-def part_of(case):
-    """The part of the definition that leaves the case out, or None."""
-    part = words_part(case.words)
-    if part is not None:
-        return part
-    try:
-        return bodies_part(read_site(case.data()))
-    except SiteFault:
-        return None
-
-
 parts, wrong = collections.Counter(), 0
 for i in range(count):
     case = fuzz.Gen(random.Random("%d/%d" % (seed, i)), features).case()
-    part, got = part_of(case), fuzz.run_ltq(program, case)
+    part, got = words_part(case.words), fuzz.run_ltq(program, case)
     if part is not None:
         parts[part] += 1
     if (got.code == 12) != (part is not None):
