@@ -12,6 +12,7 @@ use turtle_reader::{ReadFault, read_turtle};
 
 const LINK: &str = "http://a.test/1";
 
+#[derive(Clone, Copy, Drop)]
 enum Language {
     NTriples,
     Turtle,
