@@ -18,7 +18,8 @@ use Rattle.sparql_scan.specs.declared.kind.Kind.TheVariants as kinds
 use Rattle.sparql_scan.specs.declared.kind.Token.{Token}
 use Rattle.sparql_scan.specs.declared.state.Before.{Before}
 use Rattle.sparql_scan.specs.declared.state.Before.TheVariants as before
-use Rattle.sparql_scan.specs.Iris.{iri_of, joined}
+use Rattle.sparql_scan.specs.Iris.{iri_of}
+use Rattle.token_texts.specs.Iris.{prefixed_iri}
 use Rattle.sparql_scan.specs.Marks.{mark_kind, short_mark, long_mark}
 use Rattle.sparql_scan.specs.Names.{most_names}
 use Rattle.sparql_scan.specs.Words.{word_kind, head_word, group_word, order_word, call_word, test_word, clause_word, expression_word, other_word, verb_or_unknown, kind_or, is_unsupported}
@@ -291,7 +292,7 @@ module _ (names : List (List ℕ)) where
   joined_from b None from = tt
 
   long_from : (b : ℕ) (o : Option (List ℕ)) (local : List ℕ) (from : ℕ) → HoldsKind b (long_name_by o local from)
-  long_from b (Some iri) local from = joined_from b (joined iri local) from
+  long_from b (Some iri) local from = joined_from b (prefixed_iri iri local) from
   long_from b None local from = tt
 
   long_holds : (prefix local : List ℕ) (from : ℕ) (s : State) → AllMade s.blanks s.labels → Holds s.blanks (still s (long_name prefix local from s))

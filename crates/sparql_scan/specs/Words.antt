@@ -1,20 +1,10 @@
 -- Keywords (SPARQL 1.1, section 19.8), which are read in any case, but for `a`.
-use Rattle.std.specs.Prelude.{ℕ, ◌+◌, ◌==◌, ◌&&◌, ◌||◌, Bool, true, false, nat_le, List, [], ◌∷◌, Option, Some, None, codes, if◌then◌else◌}
+use Rattle.std.specs.Prelude.{ℕ, ◌==◌, ◌||◌, Bool, true, false, List, [], ◌∷◌, Option, Some, None, codes, if◌then◌else◌}
 use Rattle.std.specs.Option.{option_or}
 use Rattle.expr_eval.specs.declared.expr.Function.TheVariants as functions
+use Rattle.token_texts.specs.Words.{is_word}
 use Rattle.sparql_scan.specs.declared.kind.Kind.{Kind}
 use Rattle.sparql_scan.specs.declared.kind.Kind.TheVariants as kinds
-
--- a letter in lower case
-abbrev pub lower : ℕ → ℕ
-lower b = if nat_le 65 b && nat_le b 90 then b + 32 else b
-
--- the word is this one, which is given in lower case
-abbrev pub is_word : List ℕ → List ℕ → Bool
-is_word [] [] = true
-is_word [] (b ∷ bs) = false
-is_word (a ∷ as') [] = false
-is_word (a ∷ as') (b ∷ bs) = lower a == b && is_word as' bs
 
 abbrev pub head_word : List ℕ → Option Kind
 head_word w =

@@ -6,7 +6,7 @@ ghost use Rattle.sparql_scan.specs.Scan.{view, Gives, Steps, StepsAlone};
 ghost use Rattle.sparql_scan.specs.declared.fault.Fault.TheVariants as faults;
 
 use crate::fault::{Fault, ScanError};
-use crate::iris::{iri_of, joined};
+use crate::iris::iri_of;
 use crate::kind::Kind;
 use crate::marks::mark_kind;
 use crate::names::{MOST_NAMES, Names};
@@ -17,7 +17,8 @@ use sparql_lexer::{QueryKind, QueryToken};
 use std::alloc::Global;
 use std::mem;
 use token_texts::{
-    iri_text, label_text, local_text, plain_text, prefix_text, string_text, tag_text, variable_text,
+    iri_text, label_text, local_text, plain_text, prefix_text, prefixed_iri, string_text, tag_text,
+    variable_text,
 };
 
 const INTEGER_TYPE: &str = "http://www.w3.org/2001/XMLSchema#integer";
@@ -283,7 +284,7 @@ impl Scan {
         ensures { Gives (λ k. k) result (spec.long_name prefix.now local.now from (view self.now)) }
     {
         match self.prefixes.get(prefix) {
-            Some(iri) => Ok(Kind::Name(needed(joined(self.alloc, iri, local)?, from)?)),
+            Some(iri) => Ok(Kind::Name(needed(prefixed_iri(self.alloc, iri, local)?, from)?)),
             None => Err(ScanError::Fault(Fault::Syntax(from))),
         }
     }

@@ -1,45 +1,11 @@
 //! Keywords, which are read in any case.
 
-ghost use Rattle.std.specs.Prelude.{◌≡◌, option_map};
-ghost use Rattle.token_texts.specs.Texts.{FirstIs};
+ghost use Rattle.std.specs.Prelude.{◌≡◌};
 ghost use Rattle.sparql_scan.specs.Words as spec;
 
 use crate::kind::Kind;
 use expr_eval::Function;
-
-fn lower(byte: u8) -> u8
-    ensures { result ≡ spec.lower byte }
-{
-    if 65 <= byte && byte <= 90 {
-        byte + 32
-    } else {
-        byte
-    }
-}
-
-// The first byte and those behind it.
-fn first(bytes: &[u8]) -> Option<(u8, &[u8])>
-    ensures { FirstIs bytes.now (option_map (λ x. (x.0, x.1.now)) result) }
-{
-    match bytes {
-        [] => None,
-        [byte, rest @ ..] => Some((*byte, rest)),
-    }
-}
-
-// Whether the word is this one, which is given in lower case. It takes as many calls as that one has
-// letters.
-fn is_word(word: &[u8], wanted: &[u8]) -> bool
-    ensures { result ≡ spec.is_word word.now wanted.now }
-{
-    match first(word) {
-        None => first(wanted).is_none(),
-        Some((a, word)) => match first(wanted) {
-            None => false,
-            Some((b, wanted)) => lower(a) == b && is_word(word, wanted),
-        },
-    }
-}
+use token_texts::is_word;
 
 fn head_word(word: &[u8]) -> Option<Kind>
     ensures { result ≡ spec.head_word word.now }

@@ -9,7 +9,7 @@ use std::alloc::Global;
 use text_rules::{class_of, is_scalar, with_digit};
 
 /// The first byte and those behind it.
-fn first(bytes: &[u8]) -> Option<(u8, &[u8])>
+pub fn first(bytes: &[u8]) -> Option<(u8, &[u8])>
     ensures { FirstIs bytes.now (option_map (λ x. (x.0, x.1.now)) result) }
 {
     match bytes {

@@ -62,7 +62,8 @@ fn quotes_of(bytes: &[u8]) -> usize
     }
 }
 
-fn lower(byte: u8) -> u8
+/// A letter of ASCII in lower case, and each other byte as it is.
+pub fn lower(byte: u8) -> u8
     ensures { result ≡ value.lower byte }
 {
     if 65 <= byte && byte <= 90 {

@@ -1,3 +1,2 @@
-pub mod Iris
 pub mod Scan
 pub mod Words

@@ -24,7 +24,7 @@ use Rattle.turtle_scan.specs.declared.words.Word.{Word}
 use Rattle.turtle_scan.specs.declared.words.Word.TheVariants as words
 use Rattle.turtle_scan.specs.declared.words.Mark.{Mark}
 use Rattle.turtle_scan.specs.declared.words.Mark.TheVariants as marks
-use Rattle.turtle_scan.specs.Iris.{iri_of, joined}
+use Rattle.token_texts.specs.Iris.{referred_iri, prefixed_iri}
 use Rattle.turtle_scan.specs.Words.{word_of, mark_of, begins_object}
 
 -- how many brackets may be open at once
@@ -162,11 +162,11 @@ declared before.Carets iri s = s
 
 abbrev pub iri_ref : Before → List ℕ → ℕ → State → Step
 iri_ref b bytes from s =
-    then' (λ t. then' (λ iri. Ok (kinds.IriRef iri, declared b iri s)) (needed (iri_of s.base t) from)) (needed (plain (iri_text bytes)) from)
+    then' (λ t. then' (λ iri. Ok (kinds.IriRef iri, declared b iri s)) (needed (referred_iri s.base t) from)) (needed (plain (iri_text bytes)) from)
 
 -- a prefixed name is refused where its prefix is not declared
 abbrev pub long_name_by : Option (List ℕ) → List ℕ → ℕ → Result Kind Fault
-long_name_by (Some iri) local from = then' (λ i. Ok (kinds.Name i)) (needed (joined iri local) from)
+long_name_by (Some iri) local from = then' (λ i. Ok (kinds.Name i)) (needed (prefixed_iri iri local) from)
 long_name_by None local from = Err (Syntax from)
 
 abbrev pub long_name : List ℕ → List ℕ → ℕ → State → Result Kind Fault

@@ -1,22 +1,12 @@
 -- Keywords and marks (RDF 1.1 Turtle, section 6.5): `a`, `true` and `false` only as written, PREFIX and BASE in any case.
-use Rattle.std.specs.Prelude.{ℕ, ◌+◌, ◌==◌, ◌&&◌, Bool, true, false, nat_le, List, [], ◌∷◌, codes, bytes_eq, if◌then◌else◌}
+use Rattle.std.specs.Prelude.{ℕ, ◌==◌, Bool, true, false, List, [], ◌∷◌, codes, bytes_eq, if◌then◌else◌}
+use Rattle.token_texts.specs.Words.{is_word}
 use Rattle.turtle_lexer.specs.declared.kind.TurtleKind.{TurtleKind}
 use Rattle.turtle_lexer.specs.declared.kind.TurtleKind.TheVariants as lexed
 use Rattle.turtle_scan.specs.declared.words.Word.{Word}
 use Rattle.turtle_scan.specs.declared.words.Word.TheVariants as words
 use Rattle.turtle_scan.specs.declared.words.Mark.{Mark}
 use Rattle.turtle_scan.specs.declared.words.Mark.TheVariants as marks
-
--- a letter in lower case
-abbrev pub lower : ℕ → ℕ
-lower b = if nat_le 65 b && nat_le b 90 then b + 32 else b
-
--- the word is this one in any case, which is given in lower case
-abbrev pub is_word : List ℕ → List ℕ → Bool
-is_word [] [] = true
-is_word [] (b ∷ bs) = false
-is_word (a ∷ as') [] = false
-is_word (a ∷ as') (b ∷ bs) = lower a == b && is_word as' bs
 
 -- what the bytes of a Word are
 abbrev pub word_of : List ℕ → Word

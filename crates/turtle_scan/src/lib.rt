@@ -13,7 +13,6 @@
 #![tactic(auto)]
 
 mod fault;
-mod iris;
 mod kind;
 mod scanning;
 mod state;

@@ -5,7 +5,6 @@ ghost use Rattle.turtle_scan.specs.Scan as spec;
 ghost use Rattle.turtle_scan.specs.Scan.{view, Gives, Steps, StepsAlone};
 
 use crate::fault::{Fault, ScanError};
-use crate::iris::{iri_of, joined};
 use crate::kind::Kind;
 use crate::words::{Mark, Word, begins_object, is_text, mark_of, word_of};
 use indexmap::IndexMap;
@@ -13,7 +12,8 @@ use rdf_terms::TextBuf;
 use std::alloc::Global;
 use std::mem;
 use token_texts::{
-    iri_text, label_text, local_text, plain_text, prefix_text, string_text, tag_text,
+    iri_text, label_text, local_text, plain_text, prefix_text, prefixed_iri, referred_iri,
+    string_text, tag_text,
 };
 use turtle_lexer::{Token, TurtleKind};
 
@@ -267,7 +267,10 @@ impl Scan {
         ensures { Steps self.new result (spec.iri_ref before bytes.now from (view self.old)) }
     {
         let text = needed(iri_text(self.alloc, bytes)?, from)?;
-        let iri = needed(iri_of(self.alloc, &self.base, &text)?, from)?;
+        let iri = needed(
+            referred_iri(self.alloc, self.base.as_str(), text.as_str())?,
+            from,
+        )?;
         self.declare(before, &iri)?;
         Ok(Kind::IriRef(iri))
     }
@@ -276,7 +279,7 @@ impl Scan {
         ensures { Gives (λ k. k) result (spec.long_name prefix.now local.now from (view self.now)) }
     {
         match self.prefixes.get(prefix) {
-            Some(iri) => Ok(Kind::Name(needed(joined(self.alloc, iri, local)?, from)?)),
+            Some(iri) => Ok(Kind::Name(needed(prefixed_iri(self.alloc, iri, local)?, from)?)),
             None => Err(ScanError::Fault(Fault::Syntax(from))),
         }
     }

@@ -1,9 +1,9 @@
 //! Keywords and marks.
 
-ghost use Rattle.std.specs.Prelude.{◌≡◌, option_map, bytes_eq};
-ghost use Rattle.token_texts.specs.Texts.{FirstIs};
+ghost use Rattle.std.specs.Prelude.{◌≡◌, bytes_eq};
 ghost use Rattle.turtle_scan.specs.Words as spec;
 
+use token_texts::is_word;
 use turtle_lexer::TurtleKind;
 
 /// What a Word of the lexer is.
@@ -30,40 +30,6 @@ pub enum Mark {
     ShutParen,
     Carets,
     Unknown,
-}
-
-fn lower(byte: u8) -> u8
-    ensures { result ≡ spec.lower byte }
-{
-    if 65 <= byte && byte <= 90 {
-        byte + 32
-    } else {
-        byte
-    }
-}
-
-// The first byte and those behind it.
-fn first(bytes: &[u8]) -> Option<(u8, &[u8])>
-    ensures { FirstIs bytes.now (option_map (λ x. (x.0, x.1.now)) result) }
-{
-    match bytes {
-        [] => None,
-        [byte, rest @ ..] => Some((*byte, rest)),
-    }
-}
-
-// Whether the word is this one in any case, which is given in lower case. It takes as many calls as
-// that one has letters.
-fn is_word(word: &[u8], wanted: &[u8]) -> bool
-    ensures { result ≡ spec.is_word word.now wanted.now }
-{
-    match first(word) {
-        None => first(wanted).is_none(),
-        Some((a, word)) => match first(wanted) {
-            None => false,
-            Some((b, wanted)) => lower(a) == b && is_word(word, wanted),
-        },
-    }
 }
 
 /// Whether the bytes are these.

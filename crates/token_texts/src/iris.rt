@@ -3,17 +3,17 @@
 ghost use Rattle.std.specs.Prelude.{◌≡◌, ◌++◌, Some, None, IfOk, OnOk, IsErrOf};
 ghost use Rattle.iri_core.specs.Refusal.{place_refused};
 ghost use Rattle.iri_core.specs.Resolution.{resolved};
-ghost use Rattle.turtle_scan.specs.Iris as spec;
+ghost use Rattle.token_texts.specs.Iris as spec;
 
 use iri_core::{IriFault, check, resolve};
 use rdf_terms::{Memory, TextBuf};
 use std::alloc::Global;
 
 /// The IRI that the text of an IRIREF stands for under the base; none where it is refused.
-pub fn iri_of(alloc: Global, base: &TextBuf, text: &TextBuf) -> Result<Option<TextBuf>, Memory>
-    ensures { IfOk result (λ t. t ≡ spec.iri_of base.now text.now) }
+pub fn referred_iri(alloc: Global, base: &str, text: &str) -> Result<Option<TextBuf>, Memory>
+    ensures { IfOk result (λ t. t ≡ spec.referred_iri base.now text.now) }
 {
-    match resolve(alloc, base.as_str(), text.as_str()) {
+    match resolve(alloc, base, text) {
         Ok(iri) => Ok(Some(iri)),
         Err(IriFault::NotAnIri { at: _ }) => Ok(None),
         Err(IriFault::Memory) => Err(Memory),
@@ -21,8 +21,12 @@ pub fn iri_of(alloc: Global, base: &TextBuf, text: &TextBuf) -> Result<Option<Te
 }
 
 /// The IRI that a prefix's IRI and a local name make; none where it is refused.
-pub fn joined(alloc: Global, iri: &TextBuf, local: &TextBuf) -> Result<Option<TextBuf>, Memory>
-    ensures { IfOk result (λ t. t ≡ spec.joined iri.now local.now) }
+pub fn prefixed_iri(
+    alloc: Global,
+    iri: &TextBuf,
+    local: &TextBuf,
+) -> Result<Option<TextBuf>, Memory>
+    ensures { IfOk result (λ t. t ≡ spec.prefixed_iri iri.now local.now) }
 {
     let mut text = String::from_str(alloc, iri.as_str())?;
     text.push_str(local.as_str())?;

@@ -1,5 +1,5 @@
-use Rattle.sparql_scan.proofs.Refusing.{refused_none}
-use Rattle.sparql_scan.proofs.iris.resolved_or_none.Goals as goal
+use Rattle.token_texts.proofs.Refusing.{refused_none}
+use Rattle.token_texts.proofs.iris.referred_iri.Goals as goal
 
 pub returns-in-Err-NotAnIri : goal.returns-in-Err-NotAnIri
 returns-in-Err-NotAnIri c = refused_none _ c.in-Err-NotAnIri.field-0-0 _ ((c.in-Err-NotAnIri.ensures.refused c.in-Err-NotAnIri.field-0-0).0 (let e = c.in-Err-NotAnIri.field-0-is in cc))
