@@ -1,6 +1,6 @@
 -- Basic graph patterns over a list of triples, after SPARQL 1.1 Query Language, section 18.3.
 use Rattle.std.specs.Prelude.{Bool, List, [], ◌∷◌}
-use Rattle.std.specs.List.{flat_map, list_any}
+use Rattle.std.specs.List.{flat_map}
 use Rattle.rdf_terms.specs.declared.triple.Triple.{Triple}
 use Rattle.rdf_terms.specs.Lists.{add_all}
 use Rattle.rdf_terms.specs.Same.{same_triple}
@@ -11,10 +11,6 @@ use Rattle.rows_core.specs.Bindings.{extensions}
 -- the first of each equal elements, in order
 abbrev pub once : {X : Type 0} → (X → X → Bool) → List X → List X
 once same xs = add_all same [] xs
-
--- the triple is in the list
-abbrev pub holds : List Triple → Triple → Bool
-holds triples t = list_any (same_triple t) triples
 
 -- the list of triples as a set: each triple once, in order of first appearance
 abbrev pub graph : List Triple → List Triple

@@ -8,10 +8,10 @@ ghost use Rattle.algebra_core.specs.Query.{same_row, distinct_if, body_rows, Ans
 
 use crate::algebra::Algebra;
 use crate::conditions::holds;
-use crate::graph::Graph;
 use crate::ordering::ordered_rows;
 use crate::query::Query;
 use expr_eval::Expr;
+use growing_graph::Graph;
 use indexmap::IndexSet;
 use rdf_terms::{Memory, Seq, Term, Triple};
 use rows_core::{Row, TriplePattern, bind, compatible, merge};
@@ -20,11 +20,11 @@ use std::alloc::Global;
 /// The solutions of the query over the triples as a set (SPARQL 1.1 Query Language, sections 15 and
 /// 18.5): in order where the query has keys, then projected, then each once where DISTINCT is asked.
 ///
-/// It is the plain evaluation, nested loops over a finished list. It costs a hash of each triple and
-/// a copy of each that is new; for each pattern a test of each row so far with each triple, and a
-/// row for each that is extended; for a join or an optional part a test of each pair of rows, and a
-/// row for each pair that fits; for a filter an evaluation a row. With keys it costs an evaluation
-/// of each key a row and n log n comparisons of n rows; for DISTINCT a hash of each row.
+/// It is the plain evaluation, nested loops over a finished list. It costs a hash and a copy of each
+/// triple; for each pattern a test of each row so far with each triple, and a row for each that is
+/// extended; for a join or an optional part a test of each pair of rows, and a row for each pair that
+/// fits; for a filter an evaluation a row. With keys it costs an evaluation of each key a row and
+/// n log n comparisons of n rows; for DISTINCT a hash of each row.
 pub fn evaluate_query(alloc: Global, query: &Query, triples: &[Triple]) -> Result<Seq<Row>, Memory>
     ensures list { IfOk result (λ rows. rows ≡ solutions query.now triples.now) }
     ensures answers { IfOk result (λ rows. Answers query.now triples.now rows) }
@@ -39,7 +39,8 @@ pub fn evaluate_query(alloc: Global, query: &Query, triples: &[Triple]) -> Resul
 fn body_solutions(alloc: Global, query: &Query, triples: &[Triple]) -> Result<Vec<Row>, Memory>
     ensures { IfOk result (λ rows. rows.items ≡ body_rows query.now triples.now) }
 {
-    let graph = Graph::of_list(alloc, triples)?;
+    let mut graph = Graph::new(alloc);
+    graph.extend(triples)?;
     let size = Size {
         width: query.width,
         names: query.names.len(),

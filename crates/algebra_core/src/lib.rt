@@ -6,7 +6,7 @@
 //! are its pattern instances, each once; a left join is a filtered join and a difference; rows in order are
 //! sorted, and the names break all ties. The solutions depend on no order and no repeat of the
 //! triples, and a larger graph gives no row less where a query is monotone.
-//! Not here: joins while a graph grows (`live_plan`), and the text of rows (`json_results`).
+//! Not here yet: joins while a graph grows. Not here: the text of rows (`json_results`).
 //!
 //! Want of memory is `Memory` everywhere; after it every argument that was lent is as before.
 #![tactic(auto)]
@@ -14,7 +14,6 @@
 mod algebra;
 mod conditions;
 mod evaluation;
-mod graph;
 mod laws;
 mod ordering;
 mod query;

@@ -57,6 +57,8 @@ fn equal_rows_come_once_where_asked(rt: HostRuntime) -> Result<(), Fail> {
 fn a_single_pattern_is_monotone(rt: HostRuntime) -> Result<(), Fail> {
     let query = subjects(&rt)?;
     assert!(rt; is_monotone(&query));
+    let body = query.body.copy(rt.alloc())?;
+    assert!(rt; matches!(&body, Algebra::Bgp(patterns) if patterns.len() == 1));
     let listed = patterns(rt.alloc(), &query)?;
     assert_eq!(rt; listed.len(), 1);
     match &listed.as_slice()[0].o {

@@ -1,4 +1,4 @@
-ghost use Rattle.std.specs.Prelude.{◌≡◌, ◌≤◌, ◌<◌, ◌++◌, ◌∷◌, [], length, take, slice_get, IfOk, OnOk, OnErr, IsTrue, ◌↔◌, Some, option_copied};
+ghost use Rattle.std.specs.Prelude.{◌≡◌, ◌≤◌, ◌<◌, ◌++◌, ◌∷◌, [], length, take, slice_get, IfOk, OnOk, OnErr, IsTrue, Some};
 ghost use Rattle.rdf_terms.specs.Lists.{IsIn, Apart, add_once, add_all};
 ghost use Rattle.rdf_terms.specs.Same.{same_triple};
 
@@ -56,13 +56,6 @@ impl Graph {
         ensures { Some result.now ≡ slice_get self.now i }
     {
         &self.set.as_slice()[i]
-    }
-
-    /// Whether the triple is there.
-    pub fn contains(&self, triple: &Triple) -> bool
-        ensures { IsTrue result ↔ IsIn self.now triple.now }
-    {
-        self.set.contains(triple)
     }
 
     /// Appends the triple where it isn't there, and tells whether it did.
