@@ -5,7 +5,8 @@ ghost use Rattle.expr_eval.specs.declared.expr.Expr.{And, Call, Compare, Not, Or
 
 use expr_eval::{CompareOp, Expr, Function, Sign};
 use items_core::{Boxed, Items};
-use std::alloc::{AllocError, Global};
+use rdf_terms::Memory;
+use std::alloc::Global;
 
 /// One of these, by `||`.
 pub fn any_of(all: Vec<Expr>) -> Expr
@@ -21,13 +22,15 @@ pub fn all_of(all: Vec<Expr>) -> Expr
     Expr::And(Items::from_vec(all))
 }
 
-pub fn negated(alloc: Global, of: Expr) -> Result<Expr, AllocError>
+/// Its negation, by `!`.
+pub fn negated(alloc: Global, of: Expr) -> Result<Expr, Memory>
     ensures { IfOk result (λ e. e ≡ Not of) }
 {
     Ok(Expr::Not(Boxed::new(alloc, of)?))
 }
 
-pub fn signed(alloc: Global, sign: Sign, of: Expr) -> Result<Expr, AllocError>
+/// The operand with its sign.
+pub fn signed(alloc: Global, sign: Sign, of: Expr) -> Result<Expr, Memory>
     ensures { IfOk result (λ e. e ≡ Signed sign of) }
 {
     Ok(Expr::Signed {
@@ -36,7 +39,8 @@ pub fn signed(alloc: Global, sign: Sign, of: Expr) -> Result<Expr, AllocError>
     })
 }
 
-pub fn compared(alloc: Global, op: CompareOp, left: Expr, right: Expr) -> Result<Expr, AllocError>
+/// A comparison of the two.
+pub fn compared(alloc: Global, op: CompareOp, left: Expr, right: Expr) -> Result<Expr, Memory>
     ensures { IfOk result (λ e. e ≡ Compare op left right) }
 {
     let left = Boxed::new(alloc, left)?;
@@ -48,7 +52,7 @@ pub fn compared(alloc: Global, op: CompareOp, left: Expr, right: Expr) -> Result
 }
 
 /// A sum of operands with their signs, from the left.
-pub fn sum_of(alloc: Global, first: Expr, rest: Vec<(Sign, Expr)>) -> Result<Expr, AllocError>
+pub fn sum_of(alloc: Global, first: Expr, rest: Vec<(Sign, Expr)>) -> Result<Expr, Memory>
     ensures { IfOk result (λ e. e ≡ Sum first rest.items) }
 {
     Ok(Expr::Sum {
@@ -57,7 +61,8 @@ pub fn sum_of(alloc: Global, first: Expr, rest: Vec<(Sign, Expr)>) -> Result<Exp
     })
 }
 
-pub fn called(alloc: Global, function: Function, of: Expr) -> Result<Expr, AllocError>
+/// A call of a function of one argument.
+pub fn called(alloc: Global, function: Function, of: Expr) -> Result<Expr, Memory>
     ensures { IfOk result (λ e. e ≡ Call function of) }
 {
     Ok(Expr::Call {
@@ -66,7 +71,8 @@ pub fn called(alloc: Global, function: Function, of: Expr) -> Result<Expr, Alloc
     })
 }
 
-pub fn same_term(alloc: Global, left: Expr, right: Expr) -> Result<Expr, AllocError>
+/// A call of `sameTerm`.
+pub fn same_term(alloc: Global, left: Expr, right: Expr) -> Result<Expr, Memory>
     ensures { IfOk result (λ e. e ≡ SameTerm left right) }
 {
     let left = Boxed::new(alloc, left)?;

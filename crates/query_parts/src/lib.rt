@@ -23,5 +23,5 @@ pub use crate::groups::{
 };
 pub use crate::selection::{once, selected_by_star};
 pub use crate::terms::{
-    boolean, number, plain_text, signed_number, tagged_text, true_term, type_iri, typed_text,
+    boolean, number, plain_text, signed_number, tagged_text, type_iri, typed_text,
 };
