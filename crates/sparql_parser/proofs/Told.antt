@@ -6,11 +6,11 @@ use Rattle.sparql_lexer.specs.declared.token.QueryToken.{QueryToken}
 use Rattle.sparql_scan.specs.declared.fault.Fault.{Fault}
 use Rattle.sparql_scan.specs.declared.kind.Token.{Token}
 use Rattle.sparql_scan.specs.declared.scanning.Scanned.{Scanned}
-use Rattle.sparql_scan.specs.Scan.{IsScanned}
+use Rattle.sparql_scan.specs.Scan.{IsScanned, names_of, width_of, tokens_of, stop_of}
 use Rattle.sparql_parser.specs.declared.fault.QueryFault.{QueryFault}
 use Rattle.sparql_parser.specs.declared.fault.QueryFault.TheVariants as faults
 use Rattle.sparql_parser.specs.Grammar.{QueryUnit, reads}
-use Rattle.sparql_parser.specs.Answer.{answer_by, names_of, width_of, tokens_of, stop_of, IsRead, IsShortAnswer, is_answer_by, IsAnswer, most_bytes, ToldFault, IsTold}
+use Rattle.sparql_parser.specs.Answer.{answer_by, IsRead, IsShortAnswer, is_answer_by, IsAnswer, most_bytes, ToldFault, IsTold}
 use Rattle.sparql_parser.proofs.Unique.{A, read_answer}
 use Rattle.sparql_parser.proofs.Valid.{valid_answer}
 

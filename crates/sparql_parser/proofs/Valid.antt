@@ -23,10 +23,10 @@ use Rattle.sparql_lexer.specs.declared.token.QueryToken.{QueryToken}
 use Rattle.sparql_scan.specs.declared.kind.Kind.{Kind}
 use Rattle.sparql_scan.specs.declared.kind.Kind.TheVariants as kinds
 use Rattle.sparql_scan.specs.Names.{most_names}
-use Rattle.sparql_scan.specs.Scan.{names_from, name_from, with_name, bytes_of, scanning}
+use Rattle.sparql_scan.specs.Scan.{names_from, name_from, with_name, bytes_of, scanning, names_of, width_of, tokens_of, stop_of}
 use Rattle.sparql_parser.specs.declared.fault.QueryFault.{QueryFault}
 use Rattle.sparql_parser.specs.Grammar.{E, Request, QueryUnit, body, sparql}
-use Rattle.sparql_parser.specs.Answer.{selected, query, answer_by, names_of, width_of, tokens_of, stop_of, IsRead, is_answer_by, IsAnswer, most_bytes}
+use Rattle.sparql_parser.specs.Answer.{selected, query, answer_by, IsRead, is_answer_by, IsAnswer, most_bytes}
 use Rattle.sparql_parser.proofs.Fitting.{Each, each_push, FitsKey}
 use Rattle.sparql_parser.proofs.Numbers.{Counts, all_counted}
 use Rattle.sparql_parser.proofs.Sound.{FitsKind, FitsToken, FitsSelect, FitsRequest, request_fits}

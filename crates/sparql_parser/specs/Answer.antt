@@ -1,5 +1,5 @@
 -- What a text is answered: its query, or its first fault (docs/FORMATS.md, "Queries").
-use Rattle.std.specs.Prelude.{◌≡◌, ℕ, ◌+◌, List, [], length, Bool, true, false, nat_lt, Option, Some, None, Result, Ok, Err, min, unwrap_or}
+use Rattle.std.specs.Prelude.{◌≡◌, ℕ, List, length, Bool, true, false, nat_lt, Option, Some, None, Result, Ok, Err}
 use Rattle.grammar_engine.specs.Engine.{Reads, Done, Not}
 use Rattle.algebra_core.specs.declared.algebra.Algebra.{Algebra}
 use Rattle.algebra_core.specs.declared.query.Query.{Query}
@@ -8,9 +8,7 @@ use Rattle.sparql_lexer.specs.declared.token.QueryToken.{QueryToken}
 use Rattle.sparql_lexer.specs.Tokens.{QueryTokens}
 use Rattle.sparql_scan.specs.declared.fault.Fault.{Fault}
 use Rattle.sparql_scan.specs.declared.fault.Fault.TheVariants as scanned
-use Rattle.sparql_scan.specs.declared.kind.Token.{Token}
-use Rattle.sparql_scan.specs.Names.{most_names}
-use Rattle.sparql_scan.specs.Scan.{names_from, scanning}
+use Rattle.sparql_scan.specs.Scan.{names_of, width_of, tokens_of, stop_of}
 use Rattle.sparql_parser.specs.declared.fault.QueryFault.{QueryFault}
 use Rattle.sparql_parser.specs.declared.fault.QueryFault.TheVariants as faults
 use Rattle.sparql_parser.specs.Grammar.{E, QueryUnit, Request, body, sparql}
@@ -49,20 +47,6 @@ answer_by names width (Done r rest) = Ok (query names width r)
 answer_by names width (Not f) = Err (fault f)
 
 -- ---- of a text
-
--- the variables' names, and their number with that of blank nodes
-abbrev pub names_of : List ℕ → List QueryToken → List (List ℕ)
-names_of bytes ts = names_from [] bytes ts
-
-abbrev pub width_of : List ℕ → List QueryToken → ℕ
-width_of bytes ts = min (length (names_of bytes ts) + (scanning bytes ts).blanks) most_names
-
--- the tokens up to the first that nothing may take, and the fault there: Syntax at the text's length where there is none
-abbrev pub tokens_of : List ℕ → List QueryToken → List Token
-tokens_of bytes ts = (scanning bytes ts).tokens
-
-abbrev pub stop_of : List ℕ → List QueryToken → Fault
-stop_of bytes ts = unwrap_or (scanning bytes ts).stop (scanned.Syntax (length bytes))
 
 -- the answer is that of the grammar, which reads these tokens of the text: where one does not fit before the first that nothing may take, the fault is there
 abbrev pub IsRead : List ℕ → List QueryToken → Result Query QueryFault → Type 0

@@ -280,14 +280,14 @@ if_next test p q = by (λ k. choose (test k) p q)
 
 -- ---- the query
 
--- query = ( BASE IRIREF | PREFIX NS IRIREF )* SELECT ..
+-- QueryUnit = ( BASE IRIREF | PREFIX PNAME_NS IRIREF )* SELECT SelectQuery
 abbrev pub query_by : Kind → G Request
 query_by kinds.Base = Skip (need terminals.IriRef (through QueryUnit))
 query_by kinds.Prefix = Skip (need terminals.Namespace (need terminals.IriRef (through QueryUnit)))
 query_by kinds.Select = Skip (through SelectQuery)
 query_by _ = Misfit
 
--- .. group order?
+-- what stands behind WHERE? in SelectQuery
 abbrev pub where_by : Bool → Option (List ℕ) → G Request
 where_by distinct select =
     Call GroupGraphPattern (λ g. Call SolutionModifier (λ order. Give (record { distinct = distinct; select = select; body = whole g; order = order })))
@@ -305,7 +305,7 @@ variables_by before _ = Give before
 abbrev pub key : Expr → Bool → Key
 key e descending = record { expr = e; descending = descending }
 
--- key = Var | ( ASC | DESC ) "(" expr ")" | "(" expr ")"
+-- OrderCondition = Var | ( ASC | DESC )? Bracketed
 abbrev pub condition_by : Kind → G Key
 condition_by (kinds.Var n) = Skip (Give (key (Variable n) false))
 condition_by kinds.OpenParen = Call Bracketed (λ e. Give (key e false))
@@ -322,7 +322,7 @@ begins_condition _ = false
 
 -- ---- groups
 
--- other = group ( UNION group )* | OPTIONAL group, and filter = FILTER ( "(" expr ")" | call )
+-- an element, or the end, of a group: GroupOrUnionGraphPattern, OptionalGraphPattern = OPTIONAL GroupGraphPattern, Filter = FILTER ( Bracketed | Call )
 abbrev pub element_by : Stage → Kind → G Grouped
 element_by s kinds.ShutBrace = Skip (Give (closed s))
 element_by s kinds.Filter = Skip (through (Filter s))
@@ -342,7 +342,7 @@ constraint_by _ = Misfit
 abbrev pub triple : Spot → Spot → Spot → TriplePattern
 triple s p o = record { s = s; p = p; o = o }
 
--- verb = Var | iri | "a"
+-- the verb of VerbObjects: Var | iri | a
 abbrev pub begins_verb : Kind → Bool
 begins_verb (kinds.Var n) = true
 begins_verb (kinds.IriRef iri) = true
@@ -375,7 +375,7 @@ abbrev pub signed_by : Sign → Kind → G Spot
 signed_by sign (kinds.Number datatype lexical touches) = need_by touches (Give (spots.Term (signed_number sign datatype lexical)))
 signed_by sign _ = Misfit
 
--- term = Var | iri | literal | label, where literal = string .. | sign? number | TRUE | FALSE
+-- VarOrTerm = Var | iri | BLANK_NODE_LABEL | RdfLiteral | ( "+" | "-" )? number | TRUE | FALSE
 abbrev pub term_by : Kind → G Spot
 term_by (kinds.Var n) = Skip (Give (spots.Var n))
 term_by (kinds.IriRef iri) = Skip (Give (spots.Term (Iri iri)))
@@ -392,13 +392,13 @@ datatype_by text (kinds.IriRef iri) = Skip (Give (typed_text text iri))
 datatype_by text (kinds.Name iri) = Skip (Give (typed_text text iri))
 datatype_by text _ = Misfit
 
--- string ( tag | "^^" iri )?
+-- RdfLiteral = string ( LANGTAG | "^^" iri )?
 abbrev pub literal_by : List ℕ → Kind → G Term
 literal_by text (kinds.Tag tag) = Skip (Give (tagged_text text tag))
 literal_by text kinds.Carets = Skip (by (datatype_by text))
 literal_by text _ = Give (plain_text text)
 
--- object = term | "[" poList "]" | "[" "]"
+-- Object = VarOrTerm | "[" PropertyList? "]"
 abbrev pub blank_object : Spot → List TriplePattern → G (List TriplePattern × Spot)
 blank_object b before =
     if_next (is_terminal terminals.ShutSquare) (Skip (Give (before, b))) (Call (PropertyList b before) (λ ps. need terminals.ShutSquare (Give (ps, b))))
@@ -407,7 +407,7 @@ abbrev pub object_by : List TriplePattern → Kind → G (List TriplePattern × 
 object_by before (kinds.OpenSquare n) = Skip (through (BlankObject n before))
 object_by before _ = Call VarOrTerm (λ o. Give (before, o))
 
--- same = term poList | "[" poList "]" poList? | "[" "]" poList
+-- TriplesSameSubject = VarOrTerm PropertyList | "[" PropertyList "]" PropertyList? | "[" "]" PropertyList
 abbrev pub blank_subject : Spot → List TriplePattern → G (List TriplePattern)
 blank_subject b before =
     if_next (is_terminal terminals.ShutSquare) (Skip (through (PropertyList b before)))
@@ -431,7 +431,7 @@ abbrev pub more_operands_by : List (Sign × Expr) → Kind → G (List (Sign × 
 more_operands_by before (kinds.Sign sign) = Skip (Call Unary (λ e. through (MoreOperands (before ++ (sign, e) ∷ []))))
 more_operands_by before _ = Give before
 
--- unary = ( "!" | "+" | "-" )? prim
+-- Unary = ( "!" | "+" | "-" )? Primary
 abbrev pub unary_by : Kind → G Expr
 unary_by kinds.Bang = Skip (Call Primary (λ e. Give (Negation e)))
 unary_by (kinds.Sign sign) = Skip (Call Primary (λ e. Give (Signed sign e)))
@@ -441,7 +441,7 @@ abbrev pub bound_by : Kind → G Expr
 bound_by (kinds.Var n) = Skip (need terminals.ShutParen (Give (Bound n)))
 bound_by _ = Misfit
 
--- prim = "(" expr ")" | call | iri | string .. | number | TRUE | FALSE | Var
+-- Primary = Bracketed | Call | iri | RdfLiteral | number | TRUE | FALSE | Var
 abbrev pub primary_by : Kind → G Expr
 primary_by kinds.OpenParen = through Bracketed
 primary_by kinds.Bound = Skip (through BoundVariable)
@@ -459,18 +459,18 @@ primary_by _ = Misfit
 
 abbrev pub body : (q : Part) → G (Value q)
 body QueryUnit = by query_by
--- .. DISTINCT? ( Var+ | "*" ) WHERE? group order?
+-- SelectQuery = DISTINCT? ( Var+ | "*" ) WHERE? GroupGraphPattern SolutionModifier
 body SelectQuery = if_next (is_terminal terminals.Distinct) (Skip (through (SelectBody true))) (through (SelectBody false))
 body (SelectBody distinct) = Call SelectClause (λ select. if_next (is_terminal terminals.Where) (Skip (where_by distinct select)) (where_by distinct select))
 body SelectClause = by select_by
 body (Variables before) = by (variables_by before)
--- order = ORDER BY key+, and the end
+-- SolutionModifier = ( ORDER BY OrderCondition+ )? end of the text
 body SolutionModifier =
     if_next (is_terminal terminals.Order) (Skip (need terminals.By (Call OrderClause (λ keys. need terminals.End (Give keys))))) (need terminals.End (Give []))
 body OrderClause = Call OrderCondition (λ k. through (MoreConditions (k ∷ [])))
 body (MoreConditions before) = if_next begins_condition (Call OrderCondition (λ k. through (MoreConditions (before ++ k ∷ [])))) (Give before)
 body OrderCondition = by condition_by
--- group = "{" triples? ( ( other | filter ) "."? triples? )* "}"
+-- GroupGraphPattern = "{" TriplesBlock? ( ( GroupOrUnionGraphPattern | OptionalGraphPattern | Filter ) "."? TriplesBlock? )* "}"
 body GroupGraphPattern = need terminals.OpenBrace (through GroupGraphPatternSub)
 body GroupGraphPatternSub = through (TriplesOrElements empty_stage)
 body (TriplesOrElements s) = if_next begins_term (Call (TriplesBlock s.patterns) (λ ps. through (Elements (with_triples s ps)))) (through (Elements s))
@@ -482,18 +482,18 @@ body (GroupElement s) = Call GroupOrUnionGraphPattern (λ a. through (AfterEleme
 body GroupOrUnionGraphPattern = Call GroupGraphPatternSub (λ g. through (MoreGroups (whole g)))
 body (MoreGroups left) = if_next (is_terminal terminals.Union) (Skip (Call GroupGraphPattern (λ g. through (MoreGroups (Union left (whole g)))))) (Give left)
 body Constraint = by constraint_by
--- triples = same ( "." triples? )?
+-- TriplesBlock = TriplesSameSubject ( "." TriplesBlock? )?
 body (TriplesBlock before) = Call (TriplesSameSubject before) (λ ps. through (MoreTriples ps))
 body (MoreTriples before) =
     if_next (is_terminal terminals.Dot) (Skip (if_next begins_term (Call (TriplesSameSubject before) (λ ps. through (MoreTriples ps))) (Give before))) (Give before)
 body (TriplesSameSubject before) = by (subject_by before)
 body (BlankSubject n before) = blank_subject (spots.Var n) before
--- poList = verb objects ( ";" ( verb objects )? )*
+-- PropertyList = VerbObjects ( ";" VerbObjects? )*, where VerbObjects = ( Var | iri | a ) ObjectList
 body (PropertyList s before) = Call (VerbObjects s before) (λ ps. through (MoreProperties s ps))
 body (MoreProperties s before) =
     if_next (is_terminal terminals.Semicolon) (Skip (if_next begins_verb (Call (VerbObjects s before) (λ ps. through (MoreProperties s ps))) (through (MoreProperties s before)))) (Give before)
 body (VerbObjects s before) = by (verb_by s before)
--- objects = object ( "," object )*
+-- ObjectList = Object ( "," Object )*
 body (ObjectList s p before) = Call (Object before) (λ x. through (MoreObjects s p (x.0 ++ triple s p x.1 ∷ [])))
 body (MoreObjects s p before) = if_next (is_terminal terminals.Comma) (Skip (through (ObjectList s p before))) (Give before)
 body (Object before) = by (object_by before)
@@ -501,24 +501,25 @@ body (BlankObject n before) = blank_object (spots.Var n) before
 body VarOrTerm = by term_by
 body (SignedNumber sign) = by (signed_by sign)
 body (RdfLiteral text) = by (literal_by text)
--- expr = and ( "||" and )*
+-- Expression = ConditionalAnd ( "||" ConditionalAnd )*
 body Expression = Call ConditionalAnd (λ e. if_next (is_terminal terminals.Or) (Skip (through (OrOperands e))) (Give e))
 body (OrOperands first) = Call ConditionalAnd (λ e. through (MoreOr (first ∷ e ∷ [])))
 body (MoreOr before) = if_next (is_terminal terminals.Or) (Skip (Call ConditionalAnd (λ e. through (MoreOr (before ++ e ∷ []))))) (Give (Or before))
--- and = rel ( "&&" rel )*
+-- ConditionalAnd = Relational ( "&&" Relational )*
 body ConditionalAnd = Call Relational (λ e. if_next (is_terminal terminals.And) (Skip (through (AndOperands e))) (Give e))
 body (AndOperands first) = Call Relational (λ e. through (MoreAnd (first ∷ e ∷ [])))
 body (MoreAnd before) = if_next (is_terminal terminals.And) (Skip (Call Relational (λ e. through (MoreAnd (before ++ e ∷ []))))) (Give (And before))
--- rel = sum ( ( "=" | "!=" | "<" | ">" | "<=" | ">=" ) sum )?
+-- Relational = Additive ( ( "=" | "!=" | "<" | ">" | "<=" | ">=" ) Additive )?
 body Relational = Call Additive (λ e. by (relational_by e))
--- sum = unary ( ( "+" | "-" ) unary )*
+-- Additive = Unary ( ( "+" | "-" ) Unary )*
 body Additive = Call Unary (λ e. by (additive_by e))
 body (Operands sign) = Call Unary (λ e. through (MoreOperands ((sign, e) ∷ [])))
 body (MoreOperands before) = by (more_operands_by before)
 body Unary = by unary_by
 body Primary = by primary_by
+-- Bracketed = "(" Expression ")"
 body Bracketed = need terminals.OpenParen (Call Expression (λ e. need terminals.ShutParen (Give e)))
--- call = BOUND "(" Var ")" | SAMETERM "(" expr "," expr ")" | ..
+-- Call = BOUND "(" Var ")" | SAMETERM "(" Expression "," Expression ")" | a function and Bracketed (in Primary)
 body BoundVariable = need terminals.OpenParen (by bound_by)
 body TermPair = need terminals.OpenParen (Call Expression (λ a. need terminals.Comma (Call Expression (λ b. need terminals.ShutParen (Give (SameTerm a b))))))
 

@@ -16,7 +16,7 @@ use std::alloc::Global;
 
 #[tactic(auto, using(crate::proofs::Whole::part_is))]
 #[cycle(expression)]
-pub fn parse_expression<'t>(
+fn parse_expression<'t>(
     alloc: Global,
     stop: Fault,
     tokens: &'t [Token],
@@ -265,6 +265,7 @@ fn parse_same_term<'t>(
     Ok((same_term(alloc, left, right)?, rest))
 }
 
+/// An expression in round brackets.
 #[tactic(auto, using(crate::proofs::Whole::part_is))]
 #[cycle(expression)]
 pub fn parse_bracketed<'t>(

@@ -9,10 +9,10 @@ use thiserror::Error;
 /// Why a text is not read as a query. A place is that of a token's first byte, or the text's length.
 #[derive(Clone, Copy, Debug, Drop, PartialEq, Eq, Error)]
 pub enum QueryFault {
-    /// The text isn't of the language.
+    /// No token can be read, one doesn't fit, an IRI, a name or a label is refused, or the text ends too early.
     #[error("a syntax error, at byte {at}")]
     Syntax { at: usize },
-    /// It is of SPARQL, and not of the profile.
+    /// The first token that doesn't fit is a mark or keyword of SPARQL that the profile doesn't take there.
     #[error("not supported, at byte {at}")]
     Unsupported { at: usize },
     /// More than 32 brackets are open, or more than 256 groups stand in it.

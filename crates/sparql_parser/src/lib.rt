@@ -24,4 +24,4 @@ mod triples;
 
 pub use crate::fault::QueryFault;
 pub use crate::laws::one_answer;
-pub use crate::reading::read_query;
+pub use crate::reading::{MOST_BYTES, read_query};

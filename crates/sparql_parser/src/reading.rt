@@ -18,7 +18,7 @@ use sparql_scan::{Fault, ScanError, Scanned, scan};
 use std::alloc::Global;
 
 /// How many bytes a query may have.
-const MOST_BYTES: usize = 65536;
+pub const MOST_BYTES: usize = 65536;
 
 fn fault_of(fault: Fault) -> QueryFault
     ensures { result ≡ spec.fault fault }
@@ -103,8 +103,8 @@ fn read_short(alloc: Global, text: &str) -> Result<Query, QueryFault>
 }
 
 /// The query of a text, or its first fault. It takes time linear in the text's length, which is at
-/// most 65,536 bytes, and in the IRIs that its names stand for, since each is written out; at most 32
-/// groups, brackets and nodes are open at once.
+/// most 65,536 bytes, in the IRIs that its names stand for, since each is written out, and in the base
+/// in force for each IRIREF; at most 32 groups, brackets and nodes are open at once.
 pub fn read_query(alloc: Global, text: &str) -> Result<Query, QueryFault>
     ensures answer { IsTold (spec.IsAnswer text.now) result }
     ensures valid { IfOk result IsValid }

@@ -10,7 +10,7 @@ use expr_eval::Sign;
 use sparql_scan::{Fault, Kind, ScanError, Token};
 
 /// A kind of token that the grammar wants at a place.
-#[derive(Clone, Copy, Debug)]
+#[derive(Clone, Copy)]
 pub enum Terminal {
     IriRef,
     Namespace,

@@ -19,7 +19,8 @@ use Rattle.sparql_scan.specs.declared.state.Before.TheVariants as before
 use Rattle.sparql_scan.specs.declared.state.Scan.{Scan}
 use Rattle.sparql_scan.specs.declared.scanning.Passed.{Passed}
 use Rattle.sparql_scan.specs.declared.scanning.Scanned.{Scanned}
-use Rattle.sparql_scan.specs.Iris.{iri_of, joined}
+use Rattle.sparql_scan.specs.Iris.{iri_of}
+use Rattle.token_texts.specs.Iris.{prefixed_iri}
 use Rattle.sparql_scan.specs.Marks.{mark_kind}
 use Rattle.sparql_scan.specs.Names.{add_name, most_names}
 use Rattle.sparql_scan.specs.Words.{word_kind}
@@ -174,7 +175,7 @@ iri_ref b bytes from s =
 
 -- a prefixed name is refused where its prefix is not declared
 abbrev pub long_name_by : Option (List ℕ) → List ℕ → ℕ → Result Kind Fault
-long_name_by (Some iri) local from = then' (λ i. Ok (kinds.Name i)) (needed (joined iri local) from)
+long_name_by (Some iri) local from = then' (λ i. Ok (kinds.Name i)) (needed (prefixed_iri iri local) from)
 long_name_by None local from = Err (Syntax from)
 
 abbrev pub long_name : List ℕ → List ℕ → ℕ → State → Result Kind Fault
@@ -252,12 +253,26 @@ scan_from names bytes s tokens (t ∷ ts) = scanning_by (step names (bytes_of by
 abbrev pub scanning : List ℕ → List QueryToken → Scanning
 scanning bytes ts = scan_from (names_from [] bytes ts) bytes begin [] ts
 
--- the names, how many variables there are with blank nodes, the tokens, and what is wrong behind them
+-- the variables' names, and their number with that of blank nodes
+abbrev pub names_of : List ℕ → List QueryToken → List (List ℕ)
+names_of bytes ts = names_from [] bytes ts
+
+abbrev pub width_of : List ℕ → List QueryToken → ℕ
+width_of bytes ts = min (length (names_of bytes ts) + (scanning bytes ts).blanks) most_names
+
+-- the tokens up to the first that nothing may take, and the fault there: Syntax at the text's length where there is none
+abbrev pub tokens_of : List ℕ → List QueryToken → List Token
+tokens_of bytes ts = (scanning bytes ts).tokens
+
+abbrev pub stop_of : List ℕ → List QueryToken → Fault
+stop_of bytes ts = unwrap_or (scanning bytes ts).stop (Syntax (length bytes))
+
+-- all of these
 pub record IsScanned (bytes : List ℕ) (ts : List QueryToken) (s : Scanned) : Type 0 where
-  pub names : s.names ≡ names_from [] bytes ts
-  pub width : s.width ≡ min (length (names_from [] bytes ts) + (scanning bytes ts).blanks) most_names
-  pub tokens : s.tokens ≡ (scanning bytes ts).tokens
-  pub stop : s.stop ≡ unwrap_or (scanning bytes ts).stop (Syntax (length bytes))
+  pub names : s.names ≡ names_of bytes ts
+  pub width : s.width ≡ width_of bytes ts
+  pub tokens : s.tokens ≡ tokens_of bytes ts
+  pub stop : s.stop ≡ stop_of bytes ts
 
 -- ---- what the code gives
 

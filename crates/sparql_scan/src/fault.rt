@@ -9,9 +9,9 @@ use std::alloc::{AllocError, AllocFailed};
 /// What is wrong with a query, and the place of the token, in bytes.
 #[derive(Clone, Copy, Debug, PartialEq, Eq)]
 pub enum Fault {
-    /// The text isn't of the language.
+    /// No token can be read, or an IRI, a name or a label is refused.
     Syntax(usize),
-    /// It is of SPARQL, and not of the profile.
+    /// A mark or keyword of SPARQL that the profile doesn't take there.
     Unsupported(usize),
     /// Too many brackets are open, or too many groups stand in it.
     Deep(usize),

@@ -7,7 +7,9 @@
 //! Not here: where tokens begin and end (`sparql_lexer`), and which follow one another
 //! (`sparql_parser`).
 //!
-//! Want of memory is `Memory`.
+//! It takes time linear in the text and in the IRIs that its names stand for, each of which is
+//! written out, and in the base in force for each IRIREF, with one look-up in a map for each name,
+//! variable and label. Want of memory is `Memory`.
 #![tactic(auto)]
 
 mod fault;
