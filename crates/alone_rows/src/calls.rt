@@ -200,7 +200,7 @@ fn settle<J: Job>(
     Ok(MADE)
 }
 
-#[tactic(auto, using(crate::proofs::Commands::told_fits))]
+#[tactic(auto, using(traverse_core::proofs::Stepping::told_fits))]
 fn settle_with<J: Job>(
     run: &mut Traversal<J, MemorySink>,
     number: u64,

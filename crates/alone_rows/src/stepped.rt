@@ -2,8 +2,7 @@
 ghost use Rattle.std.specs.Prelude.{◌≡◌, None, Some, IfOk, IfSome, OnOk};
 ghost use Rattle.link_uri.specs.Links.{AreLinks};
 ghost use Rattle.reach_criteria.specs.declared.criterion.Criterion.TheVariants as criterion;
-ghost use Rattle.traverse_core.specs.Steps.{MayBe};
-ghost use Rattle.alone_rows.specs.Commands.{AllMayBe};
+ghost use Rattle.traverse_core.specs.Steps.{AllMayBe, MayBe};
 
 use crate::calls::{Call, What, fits, made, outcome};
 use crate::shown::{halt_text, record_text, sink_text};
@@ -140,7 +139,7 @@ fn make_calls<J: Job>(
 }
 
 // The command that settles the link of a text, where it may have the outcome.
-#[tactic(auto, using(crate::proofs::Commands::told_fits))]
+#[tactic(auto, using(traverse_core::proofs::Stepping::told_fits))]
 fn settling<J: Job>(
     alloc: Global,
     number: u64,
@@ -182,7 +181,7 @@ fn command_of<J: Job>(alloc: Global, call: Call) -> Result<Option<Command>, Memo
     }
 }
 
-#[tactic(auto, using(crate::proofs::Commands::all_push))]
+#[tactic(auto, using(traverse_core::proofs::Stepping::all_push))]
 fn push_command<J: Job>(
     alloc: Global,
     commands: &mut VecDeque<Command>,
@@ -198,7 +197,7 @@ fn push_command<J: Job>(
     Ok(())
 }
 
-#[tactic(auto, using(crate::proofs::Commands::all_none))]
+#[tactic(auto, using(traverse_core::proofs::Stepping::all_none))]
 fn commands_of<J: Job>(alloc: Global, calls: &[Call]) -> Result<VecDeque<Command>, Memory>
     requires untold { J.run.fetch.web ≡ None }
     ensures { IfOk result (λ commands. AllMayBe J.run commands.items) }

@@ -2,8 +2,7 @@
 ghost use Rattle.std.specs.Prelude.{◌≡◌, ◌∷◌, [], None, Some, IfOk, IfSome, OnOk};
 ghost use Rattle.link_uri.specs.Links.{IsLink, AreLinks};
 ghost use Rattle.reach_criteria.specs.declared.criterion.Criterion.TheVariants as criterion;
-ghost use Rattle.traverse_core.specs.Steps.{MayBe};
-ghost use Rattle.settling_bench.specs.Commands.{AllMayBe};
+ghost use Rattle.traverse_core.specs.Steps.{AllMayBe, MayBe};
 
 use crate::documents::{document, link_text, query};
 use algebra_core::Query;
@@ -18,7 +17,7 @@ use std::marker::Brand;
 use traverse_core::{Command, Job, Traversal, follow_all};
 
 // The command that settles the link of a number, where it is looked up.
-#[tactic(auto, using(crate::proofs::Commands::told_fits))]
+#[tactic(auto, using(traverse_core::proofs::Stepping::told_fits))]
 fn settling<J: Job>(
     alloc: Global,
     number: u32,
@@ -42,7 +41,7 @@ fn settling<J: Job>(
     }
 }
 
-#[tactic(auto, using(crate::proofs::Commands::all_push))]
+#[tactic(auto, using(traverse_core::proofs::Stepping::all_push))]
 fn push_draws<J: Job>(commands: &mut VecDeque<Command>, named: u32) -> Result<(), Memory>
     requires may { AllMayBe J.run commands.old.items }
     ensures { OnOk result (AllMayBe J.run commands.new.items) }
@@ -53,7 +52,7 @@ fn push_draws<J: Job>(commands: &mut VecDeque<Command>, named: u32) -> Result<()
     Ok(())
 }
 
-#[tactic(auto, using(crate::proofs::Commands::all_push))]
+#[tactic(auto, using(traverse_core::proofs::Stepping::all_push))]
 fn push_settling<J: Job>(
     alloc: Global,
     commands: &mut VecDeque<Command>,
@@ -74,7 +73,7 @@ fn push_settling<J: Job>(
 }
 
 // The head is written, and each link in turn is taken and settled, and its triples are drawn.
-#[tactic(auto, using(crate::proofs::Commands::all_none, crate::proofs::Commands::all_push))]
+#[tactic(auto, using(traverse_core::proofs::Stepping::all_none, traverse_core::proofs::Stepping::all_push))]
 fn commands<J: Job>(alloc: Global, links: u32, named: u32) -> Result<VecDeque<Command>, Memory>
     requires untold { J.run.fetch.web ≡ None }
     ensures { IfOk result (λ commands. AllMayBe J.run commands.items) }

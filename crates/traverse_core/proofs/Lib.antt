@@ -8,3 +8,4 @@ pub mod Machine
 pub mod Balance
 pub mod RunningOn
 pub mod Sharing
+pub mod Stepping

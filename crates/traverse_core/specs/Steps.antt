@@ -1,7 +1,7 @@
 -- The steps of a traversal: the state after each is a function of the state before, or a relation
 -- to it where the rows or the sink decide.
 use Rattle.std.specs.Prelude.{ℕ, ◌≡◌, ◌+◌, ◌<◌, ◌⊎◌, List, [], ◌∷◌, ◌++◌, Option, Some, None, IsTrue, if◌then◌else◌, is_none, false, length, slice_get}
-use Rattle.rdf_terms.specs.Lists.{add_all}
+use Rattle.rdf_terms.specs.Lists.{IsIn, add_all}
 use Rattle.rdf_terms.specs.Same.{same_triple}
 use Rattle.link_uri.specs.declared.link.Link.{Link}
 use Rattle.link_queue.specs.declared.state.LinkState.{LinkState}
@@ -147,3 +147,7 @@ MayBe run step.Draw = Unit {0}
 MayBe run step.Write = Unit {0}
 MayBe run step.Close = Unit {0}
 MayBe run step.Halt = Unit {0}
+
+-- what each of the commands settles may be found at its link
+abbrev pub AllMayBe : Run → List Command → Type 0
+AllMayBe run commands = (c : Command) → IsIn commands c → MayBe run c

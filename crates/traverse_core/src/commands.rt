@@ -1,9 +1,7 @@
 //! Lists of steps: whatever they are, the traversal keeps what every state keeps.
-ghost use Rattle.rdf_terms.specs.Lists.{IsIn};
-ghost use Rattle.traverse_core.specs.declared.steps.Command.{Command as command};
 ghost use Rattle.traverse_core.specs.Run.{HasLinks, MayFind};
 ghost use Rattle.traverse_core.specs.Kept.{IsKept};
-ghost use Rattle.traverse_core.specs.Steps.{Does, Follows, FollowsInPart, MayBe, Wants};
+ghost use Rattle.traverse_core.specs.Steps.{AllMayBe, Does, Follows, FollowsInPart, MayBe, Wants};
 ghost use Rattle.std.specs.Prelude.{◌≡◌, OnOk, OnErr};
 
 use crate::job::Job;
@@ -135,7 +133,7 @@ pub fn follow_all<J: Job, S: Sink>(
     run: &mut Traversal<J, S>,
     commands: VecDeque<Command>,
 ) -> Result<(), Memory>
-    requires { (c : command) → IsIn commands.items c → MayBe J.run c }
+    requires { AllMayBe J.run commands.items }
     ensures follows { OnOk result (Follows J.run commands.items run.old run.new) }
     ensures err { OnErr result (FollowsInPart J.run commands.items run.old run.new) }
     ensures kept { IsKept J.run run.new }
@@ -149,7 +147,7 @@ fn follow_each<J: Job, S: Sink>(
     run: &mut Traversal<J, S>,
     commands: VecDeque<Command>,
 ) -> Result<(), Memory>
-    requires { (c : command) → IsIn commands.items c → MayBe J.run c }
+    requires { AllMayBe J.run commands.items }
     ensures follows { OnOk result (Follows J.run commands.items run.old run.new) }
     ensures err { OnErr result (FollowsInPart J.run commands.items run.old run.new) }
 {

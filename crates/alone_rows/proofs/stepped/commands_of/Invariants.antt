@@ -1,4 +1,4 @@
-use Rattle.alone_rows.specs.Commands.{AllMayBe}
+use Rattle.traverse_core.specs.Steps.{AllMayBe}
 use Rattle.alone_rows.proofs.stepped.commands_of.Given as goal
 
 abbrev pub invariant-loop-call : goal.invariant-loop-call

@@ -1,4 +1,4 @@
-use Rattle.settling_bench.specs.Commands.{AllMayBe}
+use Rattle.traverse_core.specs.Steps.{AllMayBe}
 use Rattle.settling_bench.proofs.settling.push_draws.Given as goal
 
 abbrev pub invariant-loop-triple : goal.invariant-loop-triple

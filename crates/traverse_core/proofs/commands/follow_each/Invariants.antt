@@ -1,8 +1,7 @@
 use Rattle.std.proofs.Common.{◌≡◌, List, ◌++◌}
 use Rattle.std.specs.VecDeque.{deque_len}
-use Rattle.rdf_terms.specs.Lists.{IsIn}
 use Rattle.traverse_core.specs.declared.steps.Command.{Command}
-use Rattle.traverse_core.specs.Steps.{Follows, MayBe}
+use Rattle.traverse_core.specs.Steps.{AllMayBe, Follows}
 use Rattle.traverse_core.proofs.commands.follow_each.Given as goal
 
 -- the commands so far were followed, and the others are left
@@ -11,7 +10,7 @@ invariant-loop-command g l = record {
   made : List Command;
   all : l.fn.commands.items ≡ made ++ l.commands.items;
   follows : Follows g.J.Job.run made l.fn.run l.run;
-  may : (c : Command) → IsIn l.commands.items c → MayBe g.J.Job.run c;
+  may : AllMayBe g.J.Job.run l.commands.items;
 }
 
 abbrev pub decreases-loop-command : goal.decreases-loop-command

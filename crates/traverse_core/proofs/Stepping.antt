@@ -13,8 +13,7 @@ use Rattle.traverse_core.specs.declared.steps.Command.{Command}
 use Rattle.reach_terms.specs.declared.record.Found.{Found}
 use Rattle.reach_terms.specs.declared.web.Web.{Web}
 use Rattle.traverse_core.specs.Run.{Run, AgreesAt, MayFind}
-use Rattle.traverse_core.specs.Steps.{MayBe}
-use Rattle.settling_bench.specs.Commands.{AllMayBe}
+use Rattle.traverse_core.specs.Steps.{MayBe, AllMayBe}
 
 untold : (web : Option Web) (body : ℕ) (u : Link) (f : Found) → web ≡ None → IfSome web (λ w. AgreesAt w body u f)
 untold None body u f e = tt
