@@ -17,5 +17,5 @@ mod tests;
 mod totals;
 
 pub use crate::failures::has_failed;
-pub use crate::laws::failed_links_are_told;
+pub use crate::laws::{each_entry_is_counted_once, failed_links_are_told};
 pub use crate::report::record_report;
