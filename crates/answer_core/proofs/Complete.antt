@@ -12,7 +12,7 @@ use Rattle.answer_core.specs.declared.command.Command.{Command}
 use Rattle.answer_core.specs.Command.{Asked, Asks, IsCommandOf}
 use Rattle.answer_core.specs.Input.{SawInput, RanOver}
 use Rattle.answer_core.specs.Queries.{IsRefused}
-use Rattle.answer_core.proofs.Queries.{not_both}
+use Rattle.answer_core.proofs.Queries.{not_both, one_place, one_reason}
 use Rattle.answer_core.specs.declared.status.QueryWhy.{QueryWhy}
 use Rattle.answer_core.specs.declared.status.Status.{Status}
 use Rattle.answer_core.specs.declared.status.Status.TheVariants.{Ok, Partial, Limit, Query, Site, Input, Output, Memory, Report, NotBuilt}
@@ -61,11 +61,11 @@ complete (Some a) c s t old new n r w p bytes site of saw i o q told text no_rea
 complete None c s t old new n r w p bytes site of saw i o q told text no_read no_write no_report = absurd of
 
 pub refused : (a : Asked) (s : Status) (t : Option Record) (old new : Option (List ℕ)) (counted read_rose : Type 0) (bytes : List ℕ) (site : List Entry) (at : ℕ) (reason : QueryWhy)
-    → IsRefused a.query at reason → SawInput a s t old new (counted × IsAtEnd new) → (s ≡ Input → read_rose) → old ≡ Some bytes → SiteText site bytes → (read_rose → ⊥) → IsRefusal s
+    → IsRefused a.query at reason → SawInput a s t old new (counted × IsAtEnd new) → (s ≡ Input → read_rose) → old ≡ Some bytes → SiteText site bytes → (read_rose → ⊥) → IsRefusal at reason s
 refused a Ok t old new n r bytes site at reason bad x i told text no_read = no_run a t x.0 at reason bad x.2.1
 refused a Partial t old new n r bytes site at reason bad x i told text no_read = no_run a t x.0 at reason bad x.2.1
 refused a Limit t old new n r bytes site at reason bad x i told text no_read = no_run a t x.0 at reason bad x.2.1
-refused a (Query here why) t old new n r bytes site at reason bad x i told text no_read = tt
+refused a (Query here why) t old new n r bytes site at reason bad x i told text no_read = (one_place a.query here at why reason x.2.2 bad, one_reason a.query here at why reason x.2.2 bad)
 refused a (Site here) t old new n r bytes site at reason bad x i told text no_read = no_site_fault site x.0 bytes new n here (sym told ∙ x.1) text x.2.0 x.2.1
 refused a Input t old new n r bytes site at reason bad x i told text no_read = no_read (i refl)
 refused a Output t old new n r bytes site at reason bad x i told text no_read = no_run a t x.0 at reason bad x.2.1

@@ -36,7 +36,7 @@ use Rattle.traverse_core.proofs.Logging.{graph_apart}
 use Rattle.answer_core.proofs.Many.{is_beyond, not_beyond}
 use Rattle.answer_core.specs.Codes.{HasEnd, Fits, status_by, ended_status}
 use Rattle.answer_core.specs.Headline.{HasRecord, IsOfWeb, WrotePrefix, body_limit}
-use Rattle.answer_core.specs.Running.{asked, IsOverSite, ran_status}
+use Rattle.answer_core.specs.Running.{command_of, IsOverSite, ran_status}
 use Rattle.answer_core.specs.declared.status.Status.TheVariants.{Output}
 
 -- ---- the status
@@ -116,7 +116,7 @@ prefix_by run s false e k before told =
     (sols, answers_self run.query.order sols, grew before d.written (rest ++ more) (result_text names sols) s.out.content d.held whole)
 
 -- a prefix of the text of answers over the merged graph was written, whether the output is closed or not
-pub wrote_prefix : (run : Run) (s : State) (r : Record) (new : Option (List ℕ)) → r.entries ≡ s.entries → new ≡ s.out.content → IsKept run s → WrotePrefix (asked run) r run.content new
+pub wrote_prefix : (run : Run) (s : State) (r : Record) (new : Option (List ℕ)) → r.entries ≡ s.entries → new ≡ s.out.content → IsKept run s → WrotePrefix (command_of run) r run.content new
 wrote_prefix run s r new entries out k = λ before told.
     let p = prefix_by run s s.out.closed refl k before told in
     let text = result_text (selected_names run.query) p.0 in
@@ -144,7 +144,7 @@ pub of_web : (run : Run) (site : List SiteEntry) (s : State) (r : Record) → r.
     → IsTraversed r (seeds_of run) (rule_of run) run.limit
     → IfSome run.fetch.web (λ web. IsFaithful (outcome_of web run.body) r)
     → (r.queued ≡ [] → IfSome run.fetch.web (λ web. LooksUpReachable (outcome_of web run.body) r (seeds_of run) (rule_of run)))
-    → IsOfWeb (asked run) (web_of_site site) r
+    → IsOfWeb (command_of run) (web_of_site site) r
 of_web run site s r entries o k traversed faithful exactly =
     let out = outcome_of (web_of_site site) body_limit in
     let true_to : IsFaithful out r = subst (λ b. IsFaithful (outcome_of (web_of_site site) b) r) o.body (subst (λ f. IfSome f.web (λ web. IsFaithful (outcome_of web run.body) r)) o.fetch faithful) in

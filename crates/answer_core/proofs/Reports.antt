@@ -13,7 +13,7 @@ use Rattle.answer_core.specs.Shown.{Shown}
 use Rattle.answer_core.specs.Running.{failed_report, Is, WroteReport, Turned}
 use Rattle.answer_core.specs.declared.status.Status.{Status}
 use Rattle.answer_core.specs.declared.status.Status.TheVariants.{Ok, Partial, Limit, Query, Site, Input, Output, Memory, Report, NotBuilt}
-use Rattle.answer_core.proofs.Turning.{coded_turned, recorded_turned}
+use Rattle.answer_core.proofs.Turning.{calm_turned, coded_turned, recorded_turned}
 
 whole_prefix : (old new : Option (List ℕ)) (text : List ℕ) → new ≡ append_known old text → GrewByPrefix old new text
 whole_prefix old new text e = (length text, omega arith, e ∙ ap (append_known old) (sym (take-length text)))
@@ -86,12 +86,12 @@ not_memory : (s : Status) → (s ≡ NotBuilt) ⊎ (s ≡ Memory) → s ≢ Memo
 not_memory s (inl e) n = e
 not_memory s (inr e) n = absurd (n e)
 
-pub shown : (asked : Option Asked) (t : Option Record) (left_old left_new : Option (List ℕ)) (ended : Type 0) (out_old out_new : Option (List ℕ)) (input_rose output_rose : Type 0) (status : Status)
+pub shown : (asked : Option Asked) (t : Option Record) (left_old left_new : Option (List ℕ)) (ended : Type 0) (out_old out_new : Option (List ℕ)) (input_rose output_rose input_calm output_calm : Type 0) (status : Status)
     → (asked ≡ None → (status ≡ NotBuilt) ⊎ (status ≡ Memory)) → ((c : Command) → Asks asked c → Traversed c status t) → ((c : Command) → Asks asked c → Written c status t out_old out_new)
-    → ((a : Asked) → asked ≡ Some a → SawInput a status t left_old left_new ended) → Fits status t → (status ≡ Input → input_rose) → (status ≡ Output → output_rose) → (s : Status) → s ≢ Memory → s ≡ status
-    → Shown asked t left_old left_new ended out_old out_new input_rose output_rose s
-shown asked t left_old left_new ended out_old out_new input_rose output_rose status words traversed written read fits input output s n e =
-    subst (Shown asked t left_old left_new ended out_old out_new input_rose output_rose) (sym e) (record {
+    → ((a : Asked) → asked ≡ Some a → SawInput a status t left_old left_new ended) → Fits status t → (status ≡ Input → input_rose) → (status ≡ Output → output_rose) → (status ≢ Input → status ≢ Memory → input_calm) → (status ≢ Output → output_calm) → (s : Status) → s ≢ Memory → s ≡ status
+    → Shown asked t left_old left_new ended out_old out_new input_rose output_rose input_calm output_calm s
+shown asked t left_old left_new ended out_old out_new input_rose output_rose input_calm output_calm status words traversed written read fits input output still calm s n e =
+    subst (Shown asked t left_old left_new ended out_old out_new input_rose output_rose input_calm output_calm) (sym e) (record {
       words = λ z. not_memory status (words z) (λ m. n (e ∙ m));
       recorded = recorded_turned status status t (inl refl) fits;
       traversed = traversed;
@@ -100,6 +100,7 @@ shown asked t left_old left_new ended out_old out_new input_rose output_rose sta
       coded = λ c is. coded_turned c status status t (inl refl) fits (traversed c is);
       input = input;
       output = output;
+      calm = calm_turned status status input_calm output_calm (Unit {0}) (inl refl) still calm (λ z. tt);
     })
 
 -- ---- the status then

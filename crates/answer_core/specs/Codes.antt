@@ -2,6 +2,7 @@
 use Rattle.std.specs.Prelude.{ℕ, ◌≡◌, ◌≢◌, List, [], ◌∷◌, Option, Some, None, length}
 use Rattle.reach_terms.specs.declared.record.Record.{Record}
 use Rattle.run_report.specs.Report.{failures}
+use Rattle.answer_core.specs.declared.status.QueryWhy.{QueryWhy}
 use Rattle.answer_core.specs.declared.status.Status.{Status}
 use Rattle.answer_core.specs.declared.status.Status.TheVariants.{Ok, Partial, Limit, Query, Site, Input, Output, Memory, Report, NotBuilt}
 
@@ -111,18 +112,18 @@ IsCalm Memory input output report = Unit {0}
 IsCalm Report input output report = input × output
 IsCalm NotBuilt input output report = input × output
 
--- the query is refused, or memory ran out
-abbrev pub IsRefusal : Status → Type 0
-IsRefusal Ok = ⊥
-IsRefusal Partial = ⊥
-IsRefusal Limit = ⊥
-IsRefusal (Query at why) = Unit {0}
-IsRefusal (Site at) = ⊥
-IsRefusal Input = ⊥
-IsRefusal Output = ⊥
-IsRefusal Memory = Unit {0}
-IsRefusal Report = ⊥
-IsRefusal NotBuilt = ⊥
+-- the query is refused at this place for this reason, or memory ran out
+abbrev pub IsRefusal : ℕ → QueryWhy → Status → Type 0
+IsRefusal at why Ok = ⊥
+IsRefusal at why Partial = ⊥
+IsRefusal at why Limit = ⊥
+IsRefusal at why (Query place reason) = (place ≡ at) × (reason ≡ why)
+IsRefusal at why (Site place) = ⊥
+IsRefusal at why Input = ⊥
+IsRefusal at why Output = ⊥
+IsRefusal at why Memory = Unit {0}
+IsRefusal at why Report = ⊥
+IsRefusal at why NotBuilt = ⊥
 
 -- a run that came to its end and was reported, or want of memory
 abbrev pub IsWhole : Status → Type 0

@@ -19,8 +19,8 @@ use Rattle.answer_core.specs.declared.status.Status.{Status}
 use Rattle.answer_core.specs.declared.status.Status.TheVariants.{Ok, Partial, Limit, Query, Site, Input, Output, Memory, Report, NotBuilt}
 
 -- the command that a run is of
-abbrev pub asked : Run → Command
-asked run = record { query = run.query; seeds = run.seeds; criterion = run.criterion; limit = run.limit }
+abbrev pub command_of : Run → Command
+command_of run = record { query = run.query; seeds = run.seeds; criterion = run.criterion; limit = run.limit }
 
 -- the run's look-ups are those in a site
 pub record IsOverSite (run : Run) (site : List Entry) : Type 0 where

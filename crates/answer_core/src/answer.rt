@@ -4,7 +4,7 @@ ghost use Rattle.link_uri.specs.Links.{AreLinks};
 ghost use Rattle.outer_ports.specs.Causes.{Rose};
 ghost use Rattle.site_core.specs.Text.{Entry, SiteText, site_limit};
 ghost use Rattle.answer_core.specs.Codes.{IsCalm, IsCoded, IsRefusal, IsWhole, Fits};
-ghost use Rattle.answer_core.specs.Command.{Asked as Words, Asks, IsCommandOf, asked_of, view};
+ghost use Rattle.answer_core.specs.Command.{Asked as Request, Asks, IsCommandOf, asked_of, view};
 ghost use Rattle.answer_core.specs.declared.command.Command.{Command};
 ghost use Rattle.answer_core.specs.declared.status.QueryWhy.{QueryWhy};
 ghost use Rattle.answer_core.specs.Headline.{IsRecorded, Traversed, Written};
@@ -85,7 +85,7 @@ fn answer_words<I: Source, S: Sink>(
     ensures traversed { (c : Command) → Asks (asked_of (map string_bytes words.now)) c → Traversed c result.status result.trace }
     ensures written { (c : Command) → Asks (asked_of (map string_bytes words.now)) c →
         Written c result.status result.trace (S.content out) (S.content result.out) }
-    ensures saw { (a : Words) → asked_of (map string_bytes words.now) ≡ Some a →
+    ensures saw { (a : Request) → asked_of (map string_bytes words.now) ≡ Some a →
         SawInput a result.status result.trace (I.left input.old) (I.left input.new)
         (Rose (I.ends input.old) (I.ends input.new) × IsAtEnd (I.left input.new)) }
     ensures fits { Fits result.status result.trace }
@@ -135,7 +135,7 @@ pub fn answer_alone<I: Source, S: Sink, R: Sink>(
         Written c result.status result.trace (S.content out) (S.content result.out) }
 
     // What was read, whether the text is of a query, and that the record is faithful to the site.
-    ensures input { (a : Words) → asked_of (map string_bytes words.now) ≡ Some a →
+    ensures input { (a : Request) → asked_of (map string_bytes words.now) ≡ Some a →
         SawInput a result.status result.trace (I.left input.old) (I.left input.new)
         (Rose (I.ends input.old) (I.ends input.new) × IsAtEnd (I.left input.new)) }
 
@@ -149,7 +149,8 @@ pub fn answer_alone<I: Source, S: Sink, R: Sink>(
     // What the report received.
     ensures report { Reported (Shown (asked_of (map string_bytes words.now)) result.trace (I.left input.old) (I.left input.new)
         (Rose (I.ends input.old) (I.ends input.new) × IsAtEnd (I.left input.new)) (S.content out) (S.content result.out)
-        (Rose (I.faults input.old) (I.faults input.new)) (Rose (S.faults out) (S.faults result.out)))
+        (Rose (I.faults input.old) (I.faults input.new)) (Rose (S.faults out) (S.faults result.out))
+        (I.faults input.new ≡ I.faults input.old) (S.faults result.out ≡ S.faults out))
         result.status result.trace (R.content report.old) (R.content report.new)
         (Rose (R.faults report.old) (R.faults report.new)) }
 
@@ -173,11 +174,12 @@ pub fn answer_alone<I: Source, S: Sink, R: Sink>(
         (Rose (R.faults report.old) (R.faults report.new) → ⊥) →
         IsWhole result.status }
 
-    // Over such an input a query that is refused is answered so, or memory ran out.
-    ensures refused { (a : Words) → asked_of (map string_bytes words.now) ≡ Some a →
+    // Over a told input that is a site, and without a fault of it, a query that is refused is answered so,
+    // with the place and the reason of its first fault, or memory ran out.
+    ensures refused { (a : Request) → asked_of (map string_bytes words.now) ≡ Some a →
         (at : ℕ) (why : QueryWhy) → IsRefused a.query at why →
         (bytes : List ℕ) (site : List Entry) → I.left input.old ≡ Some bytes → SiteText site bytes →
-        (Rose (I.faults input.old) (I.faults input.new) → ⊥) → IsRefusal result.status }
+        (Rose (I.faults input.old) (I.faults input.new) → ⊥) → IsRefusal at why result.status }
 {
     let Answer { status, trace, out } = answer_words(alloc, words, input, out);
     let status = tell(alloc, status, &trace, report);

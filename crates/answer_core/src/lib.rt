@@ -3,8 +3,9 @@
 //!
 //! Promise: `answer_alone` follows links over the site that the input holds, and writes exactly the
 //! answers over the merged graph of what it looked up; each other status but want of memory has its
-//! one cause. The whole statement is in `specs/Headline.antt`, `specs/Codes.antt`, `specs/Input.antt`
-//! and `specs/Reported.antt`. `Status::code` is the exit code of each status.
+//! one cause. What is asked for is in `specs/Words.antt`, `specs/Command.antt` and `specs/Queries.antt`; the
+//! whole statement in `specs/Headline.antt`, `specs/Codes.antt`, `specs/Input.antt`, `specs/Reported.antt`
+//! and `specs/Shown.antt`. `Status::code` is the exit code of each status.
 //! Not here: the real streams, which the program `ltq` makes.
 #![tactic(auto)]
 

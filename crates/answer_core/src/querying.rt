@@ -4,7 +4,8 @@ ghost use Rattle.link_uri.specs.Links.{AreLinks};
 ghost use Rattle.outer_ports.specs.Causes.{Rose};
 ghost use Rattle.site_core.specs.Text.{SiteText, site_limit};
 ghost use Rattle.answer_core.specs.Codes.{Fits};
-ghost use Rattle.answer_core.specs.Command.{IsCommandOf, view, with_query};
+ghost use Rattle.answer_core.specs.Command as spec;
+ghost use Rattle.answer_core.specs.Command.{IsCommandOf, view};
 ghost use Rattle.answer_core.specs.declared.command.Command.{Command as Run};
 ghost use Rattle.answer_core.specs.Headline.{Traversed, Written};
 ghost use Rattle.answer_core.specs.Input.{Saw};
@@ -16,11 +17,8 @@ use crate::{QueryWhy, Status};
 use algebra_core::Query;
 use outer_ports::Sink;
 use site_core::Site;
-use sparql_parser::{QueryFault, read_query};
+use sparql_parser::{MOST_BYTES, QueryFault, read_query};
 use std::alloc::Global;
-
-/// The most bytes of a query.
-const QUERY_LIMIT: usize = 65_536;
 
 fn status_of(fault: QueryFault) -> Status
     ensures { result ≡ fault_status fault }
@@ -39,15 +37,15 @@ fn status_of(fault: QueryFault) -> Status
             why: QueryWhy::Deep,
         },
         QueryFault::LongQuery => Status::Query {
-            at: QUERY_LIMIT,
+            at: MOST_BYTES,
             why: QueryWhy::Long,
         },
         QueryFault::Memory => Status::Memory,
     }
 }
 
-fn with(asked: Asked<'_>, query: Query) -> Command
-    ensures { result ≡ with_query (view asked.entry) query }
+fn with_query(asked: Asked<'_>, query: Query) -> Command
+    ensures { result ≡ spec.with_query (view asked.entry) query }
 {
     Command {
         query,
@@ -76,7 +74,7 @@ pub(crate) fn answer_query<S: Sink>(
     ensures input { result.status ≡ Status.Input → ⊥ }
 {
     match read_query(alloc, asked.query) {
-        Ok(query) => run_command(alloc, with(asked, query), site, out),
+        Ok(query) => run_command(alloc, with_query(asked, query), site, out),
         Err(fault) => without_record(status_of(fault), out),
     }
 }

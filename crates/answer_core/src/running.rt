@@ -9,7 +9,7 @@ ghost use Rattle.traverse_core.specs.State.{is_running};
 ghost use Rattle.traverse_core.specs.Alone.{Serves};
 ghost use Rattle.answer_core.specs.Codes.{Fits};
 ghost use Rattle.answer_core.specs.Headline.{Traversed, Written, FitsWeb};
-ghost use Rattle.answer_core.specs.Running.{asked, IsOverSite, ran_status};
+ghost use Rattle.answer_core.specs.Running.{command_of, IsOverSite, ran_status};
 
 use crate::Status;
 use crate::command::Command;
@@ -78,9 +78,9 @@ fn run_to_end<J: Job, S: Sink, F: Fetcher>(run: Traversal<J, S>, fetcher: &mut F
     requires body { J.run.body ≡ 1048576 }
     requires faults { J.run.faults ≡ run.out.faults }
     ensures told { IsSome result.trace }
-    ensures traversed { Traversed (asked J.run) result.status result.trace }
-    ensures written { Written (asked J.run) result.status result.trace J.run.content (S.content result.out) }
-    ensures web { (site : List Entry) → IsOverSite J.run site → FitsWeb (asked J.run) (web_of_site site) result.trace }
+    ensures traversed { Traversed (command_of J.run) result.status result.trace }
+    ensures written { Written (command_of J.run) result.status result.trace J.run.content (S.content result.out) }
+    ensures web { (site : List Entry) → IsOverSite J.run site → FitsWeb (command_of J.run) (web_of_site site) result.trace }
     ensures fits { Fits result.status result.trace }
     ensures output { result.status ≡ Status.Output → Rose J.run.faults (S.faults result.out) }
     ensures calm { result.status ≢ Status.Output → S.faults result.out ≡ J.run.faults }
@@ -99,7 +99,7 @@ fn run_to_end<J: Job, S: Sink, F: Fetcher>(run: Traversal<J, S>, fetcher: &mut F
 
 fn run_named<J: Job, S: Sink>(alloc: Global, command: Command, site: Site, out: S) -> Answer<S>
     requires own { AreLinks command.seeds }
-    requires command { command ≡ asked J.run }
+    requires command { command ≡ command_of J.run }
     requires site { IsOverSite J.run site }
     requires out { (S.content out ≡ J.run.content) × (S.faults out ≡ J.run.faults) }
     ensures traversed { Traversed command result.status result.trace }

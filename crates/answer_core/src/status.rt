@@ -7,9 +7,9 @@ use run_report::has_failed;
 /// Why a query is refused (docs/FORMATS.md, "Queries").
 #[derive(Clone, Copy, Debug, PartialEq, Eq)]
 pub enum QueryWhy {
-    /// It isn't of the language.
+    /// No token can be read, one doesn't fit, an IRI, a name or a label is refused, or the text ends too early.
     Syntax,
-    /// It is of SPARQL, and not of the profile.
+    /// The first token that doesn't fit is a mark or keyword of SPARQL that the profile doesn't take there.
     Unsupported,
     /// More brackets are open, or more groups stand in it, than may be.
     Deep,

@@ -1,4 +1,4 @@
-use crate::{Answer, Status, answer_alone};
+use crate::{Answer, QueryWhy, Status, answer_alone};
 use outer_ports::{MemorySink, MemorySource};
 use rdf_terms::ByteBuf;
 use std::alloc::Global;
@@ -100,5 +100,34 @@ fn tells_the_place_of_a_fault_of_the_site(rt: HostRuntime) -> Result<(), Fail> {
     )?;
     assert_eq!(rt; answer.status, Status::Site { at: 0 });
     assert_eq!(rt; report.content(), b"status 6 site at 0\n".as_slice());
+    Ok(())
+}
+
+#[test]
+fn tells_the_place_of_a_fault_of_the_query(rt: HostRuntime) -> Result<(), Fail> {
+    let alloc = rt.alloc();
+    let mut report = MemorySink::new(alloc, 1000);
+    let words = [
+        "site",
+        "--criterion",
+        "none",
+        "--workers",
+        "0",
+        "SELECT ?n WHERE { ?s }",
+        SEED,
+    ];
+    let answer = run(alloc, &words, SITE, Vec::new(alloc), 1000, &mut report)?;
+    assert_eq!(rt;
+        answer.status,
+        Status::Query {
+            at: 21,
+            why: QueryWhy::Syntax
+        }
+    );
+    assert_eq!(rt; answer.out.content(), b"".as_slice());
+    assert_eq!(rt;
+        report.content(),
+        b"status 5 query at 21 syntax\n".as_slice()
+    );
     Ok(())
 }

@@ -71,8 +71,10 @@ returns-clause-report g c =
     let ended = Rose (g.I.Source.ends c.args.input.now) (g.I.Source.ends run.new.input) × IsAtEnd left in
     let read_rose = Rose (g.I.Source.faults c.args.input.now) (g.I.Source.faults run.new.input) in
     let write_rose = Rose (g.S.Sink.faults c.args.out) (g.S.Sink.faults run.result.out) in
+    let read_calm = g.I.Source.faults run.new.input ≡ g.I.Source.faults c.args.input.now in
+    let write_calm = g.S.Sink.faults run.result.out ≡ g.S.Sink.faults c.args.out in
     let held = g.S.Sink.content c.args.out in
     let holds = g.S.Sink.content run.result.out in
-    let shows = Shown asked run.result.trace (g.I.Source.left c.args.input.now) left ended held holds read_rose write_rose in
+    let shows = Shown asked run.result.trace (g.I.Source.left c.args.input.now) left ended held holds read_rose write_rose read_calm write_calm in
     reported_as (Is run.result.status) shows c.tell-status.result run.result.trace (g.R.Sink.content c.args.report.now) (g.R.Sink.content c.tell-status.new.report) (Rose (g.R.Sink.faults c.args.report.now) (g.R.Sink.faults c.tell-status.new.report))
-    (shown asked run.result.trace (g.I.Source.left c.args.input.now) left ended held holds read_rose write_rose run.result.status (λ e. (run.ensures.words e).0) run.ensures.traversed run.ensures.written run.ensures.saw run.ensures.fits run.ensures.input run.ensures.output) c.tell-status.ensures.reported
+    (shown asked run.result.trace (g.I.Source.left c.args.input.now) left ended held holds read_rose write_rose read_calm write_calm run.result.status (λ e. (run.ensures.words e).0) run.ensures.traversed run.ensures.written run.ensures.saw run.ensures.fits run.ensures.input run.ensures.output run.ensures.still run.ensures.calm) c.tell-status.ensures.reported

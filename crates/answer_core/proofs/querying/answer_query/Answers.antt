@@ -7,17 +7,17 @@ use Rattle.answer_core.proofs.querying.answer_query.Goals as goal
 
 pub returns-in-Ok-clause-traversed : goal.returns-in-Ok-clause-traversed
 returns-in-Ok-clause-traversed g c = λ d of.
-    let same = one_command (view c.args.asked) c.in-Ok.query c.with.result d c.in-Ok.ensures.answer c.with.ensures of in
+    let same = one_command (view c.args.asked) c.in-Ok.query c.with_query.result d c.in-Ok.ensures.answer c.with_query.ensures of in
     subst (λ z. Traversed z c.run_command.result.status c.run_command.result.trace) same c.run_command.ensures.traversed
 
 pub returns-in-Ok-clause-written : goal.returns-in-Ok-clause-written
 returns-in-Ok-clause-written g c = λ d of.
-    let same = one_command (view c.args.asked) c.in-Ok.query c.with.result d c.in-Ok.ensures.answer c.with.ensures of in
+    let same = one_command (view c.args.asked) c.in-Ok.query c.with_query.result d c.in-Ok.ensures.answer c.with_query.ensures of in
     subst (λ z. Written z c.run_command.result.status c.run_command.result.trace (g.S.Sink.content c.args.out) (g.S.Sink.content c.run_command.result.out)) same c.run_command.ensures.written
 
 pub returns-in-Ok-clause-saw : goal.returns-in-Ok-clause-saw
 returns-in-Ok-clause-saw g c = λ bytes text.
-    ran_over (view c.args.asked) c.with.result c.run_command.result.status c.run_command.result.trace bytes c.args.site (c.in-Ok.query, c.in-Ok.ensures.answer, c.with.ensures) text c.run_command.ensures.fits c.run_command.ensures.none c.run_command.ensures.web
+    ran_over (view c.args.asked) c.with_query.result c.run_command.result.status c.run_command.result.trace bytes c.args.site (c.in-Ok.query, c.in-Ok.ensures.answer, c.with_query.ensures) text c.run_command.ensures.fits c.run_command.ensures.none c.run_command.ensures.web
 
 pub returns-in-Err-clause-traversed : goal.returns-in-Err-clause-traversed
 returns-in-Err-clause-traversed g c = λ d of.

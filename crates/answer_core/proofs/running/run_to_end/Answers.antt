@@ -2,7 +2,7 @@ use Rattle.std.proofs.Common.{Some, sym, subst, ◌∙◌, ◌≤◌, arith}
 use Rattle.outer_ports.specs.Causes.{Rose}
 use Rattle.answer_core.specs.Codes.{Fits}
 use Rattle.answer_core.specs.Headline.{Traversed, Written}
-use Rattle.answer_core.specs.Running.{asked}
+use Rattle.answer_core.specs.Running.{command_of}
 use Rattle.answer_core.proofs.Ends.{has_record, has_end, fits, is_output, no_output, wrote_prefix, of_web}
 use Rattle.answer_core.proofs.running.run_to_end.Goals as goal
 
@@ -10,14 +10,14 @@ pub returns-clause-traversed : goal.returns-clause-traversed
 returns-clause-traversed g c =
     let r = c.finish-finished.result.trace in
     let x = c.run_alone-ran.result in
-    subst (λ s. Traversed (asked g.J.Job.run) s (Some r)) (sym c.status_of-status.ensures) (has_record x r, c.finish-finished.ensures.traversed, λ h. c.finish-finished.ensures.ended (c.run_alone-ran.ensures.done (has_end x r h)).closed)
+    subst (λ s. Traversed (command_of g.J.Job.run) s (Some r)) (sym c.status_of-status.ensures) (has_record x r, c.finish-finished.ensures.traversed, λ h. c.finish-finished.ensures.ended (c.run_alone-ran.ensures.done (has_end x r h)).closed)
 
 pub returns-clause-written : goal.returns-clause-written
 returns-clause-written g c =
     let r = c.finish-finished.result.trace in
     let x = c.run_alone-ran.result in
     let content = g.S.Sink.content c.finish-finished.result.out in
-    subst (λ s. Written (asked g.J.Job.run) s (Some r) g.J.Job.run.content content) (sym c.status_of-status.ensures) (
+    subst (λ s. Written (command_of g.J.Job.run) s (Some r) g.J.Job.run.content content) (sym c.status_of-status.ensures) (
       (λ h before told. let d = c.run_alone-ran.ensures.done (has_end x r h) in c.finish-finished.ensures.written d.closed d.clear before told),
       wrote_prefix g.J.Job.run c.run_alone-ran.new.self r content c.finish-finished.ensures.trace.0 c.finish-finished.ensures.out.0 c.finish-finished.ensures.kept,
     )
