@@ -12,7 +12,7 @@ use turtle_reader::{ReadFault, read_turtle};
 
 const LINK: &str = "http://a.test/1";
 
-#[derive(Clone, Copy, Drop)]
+#[derive(Drop)]
 enum Language {
     NTriples,
     Turtle,

@@ -1,4 +1,4 @@
-use crate::{ByteBuf, Seq, Term, TextBuf, Triple};
+use crate::{ByteBuf, Seq, Term, TextBuf, Triple, write_label, write_term};
 use std::test::Fail;
 use std::thread;
 
@@ -36,6 +36,16 @@ fn lists_grow_at_their_end(rt: HostRuntime) -> Result<(), Fail> {
     terms.push(Term::Iri(text(&rt, "http://a.test/")?))?;
     assert_eq!(rt; terms.len(), 1);
     assert!(rt; terms.as_slice()[0] == Term::Iri(text(&rt, "http://a.test/")?));
+    Ok(())
+}
+
+#[test]
+fn writes_terms_and_labels(rt: HostRuntime) -> Result<(), Fail> {
+    let term = Term::literal(text(&rt, "a\"b")?, text(&rt, "http://v.test/t")?, None);
+    let form = write_term(rt.alloc(), &term)?;
+    assert_eq!(rt; form.as_str(), "\"a\\\"b\"^^<http://v.test/t>");
+    let label = write_label(rt.alloc(), "a", 7)?;
+    assert_eq!(rt; label.as_str(), "b7x61");
     Ok(())
 }
 

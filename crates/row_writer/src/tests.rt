@@ -1,17 +1,11 @@
 use crate::{RowWriter, Written};
 use json_results::head;
 use outer_ports::MemorySink;
-use rdf_terms::{Term, TextBuf};
-use rows_core::Row;
-use std::alloc::Global;
+use rdf_terms::TextBuf;
 use std::test::Fail;
 
-fn row(alloc: Global, text: &str) -> Result<Row, Fail> {
-    let term = Term::Iri(TextBuf::from_str(alloc, text)?);
-    Ok(Row::from_vec(vec![in alloc; Some(term)]?))
-}
+const TEXT: &str = "{\"head\":{\"vars\":[\"x\"]},\"results\":{\"bindings\":[\n]}}\n";
 
-// Two rows and the tail, in as many writes as there are pieces; then nothing.
 #[test]
 fn writes_all_of_it(rt: HostRuntime) -> Result<(), Fail> {
     let alloc = rt.alloc();
@@ -21,5 +15,9 @@ fn writes_all_of_it(rt: HostRuntime) -> Result<(), Fail> {
     assert!(rt; !writer.is_clear());
     assert_eq!(rt; writer.write(alloc)?, Written::Wrote);
     assert_eq!(rt; writer.write(alloc)?, Written::Clear);
+    writer.close(alloc, Vec::new(alloc))?;
+    assert_eq!(rt; writer.write(alloc)?, Written::Wrote);
+    assert!(rt; writer.is_clear());
+    assert_eq!(rt; writer.into_sink().content(), TEXT.as_bytes());
     Ok(())
 }

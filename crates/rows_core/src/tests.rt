@@ -44,6 +44,7 @@ fn a_pattern_binds_its_variables(rt: HostRuntime) -> Result<(), Fail> {
         o: Spot::Var(1),
     };
     let pattern = pattern.copy()?;
+    assert!(rt; matches!(pattern.o.copy()?, Spot::Var(1)));
     let triple = Triple {
         s: iri(&rt, "a")?,
         p: iri(&rt, "p")?,

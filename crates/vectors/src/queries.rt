@@ -6,7 +6,9 @@ use rows_core::{Spot, TriplePattern};
 use sparql_parser::{QueryFault, read_query};
 use std::alloc::Global;
 
-/// A query in the words of the module `algebra_case`, or its first fault. A case is one field.
+/// A query, or its first fault. A case is one field. The query is in the words of the module
+/// `algebra_case`, but that a term is one field, and that in a sum each sign stands before its operand
+/// and `end` behind them.
 pub fn answer(alloc: Global, line: &str) -> Result<String, Memory> {
     match texts(alloc, line)? {
         Some(fields) => match fields.as_slice() {
