@@ -248,15 +248,16 @@ KINDS = {"link": link_case, "iri": iri_case, "site": site_case, "turtle_tokens":
 SOURCES = {"expressions": "values"}
 
 
-# Kinds whose cases the oracle makes of documents that it cannot always read itself: those are left out.
+# Kinds of queries: what the oracle cannot make a text of is left out.
 QUERY_KINDS = ("sparql", "sparql_tokens")
 
 
 def query_cases(kind, seed, count):
+    import fuzz
     import random
     import unit_vectors as U
     cases, made = [], getattr(U, "kind_" + kind)
-    features = [f for f in U.features_of("r20") if f != "body"]
+    features = [f for f in fuzz.features_of(fuzz.STAGE_ORDER[-1]) if f != "body"]
     for i in range(2 * count):
         g = U.Gen(random.Random("%s/%d/%d" % (kind, seed, i)), features)
         g.prefixes, g.base_dir, g.size = {}, "http://a.test/", 5
@@ -285,6 +286,9 @@ def main():
     sys.path.insert(0, os.environ["LTQ_ORACLE"])
     sys.setrecursionlimit(20000)
     cases = cases_of(kind, seed, count)
+    if len(cases) < int(count):
+        print("vectors %s: the oracle gave %d cases of %s" % (kind, len(cases), count))
+        return 1
     ran = subprocess.run([program, kind], input="".join(c[0] + "\n" for c in cases).encode("utf-8"), stdout=subprocess.PIPE)
     answers = ran.stdout.decode("utf-8").splitlines()
     if ran.returncode != 0 or len(answers) != len(cases):
