@@ -17,8 +17,6 @@ mod evaluation;
 mod laws;
 mod ordering;
 mod query;
-#[cfg(test)]
-mod tests;
 
 pub use crate::algebra::Algebra;
 pub use crate::evaluation::evaluate_query;

@@ -16,8 +16,6 @@ mod querying;
 mod report;
 mod running;
 mod status;
-#[cfg(test)]
-mod tests;
 mod words;
 
 pub use crate::answer::answer_alone;

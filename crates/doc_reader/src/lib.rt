@@ -17,8 +17,6 @@ mod numbering;
 mod piece;
 mod reading;
 mod statement;
-#[cfg(test)]
-mod tests;
 
 pub use crate::classifying::classify;
 pub use crate::laws::one_reading;

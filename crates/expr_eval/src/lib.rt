@@ -16,8 +16,6 @@ mod laws;
 mod making;
 mod operand;
 mod ordering;
-#[cfg(test)]
-mod tests;
 mod truth;
 
 pub use crate::env::Env;

@@ -6,7 +6,5 @@
 #![tactic(auto)]
 
 mod graph;
-#[cfg(test)]
-mod tests;
 
 pub use crate::graph::Graph;

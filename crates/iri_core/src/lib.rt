@@ -14,8 +14,6 @@ mod laws;
 mod parts;
 mod refusal;
 mod resolution;
-#[cfg(test)]
-mod tests;
 
 pub use crate::laws::dots_go_by_the_rules;
 pub use crate::parts::{Parts, Span, piece, split};

@@ -8,8 +8,6 @@
 mod ends;
 mod row;
 mod term;
-#[cfg(test)]
-mod tests;
 
 pub use crate::ends::{head, tail};
 pub use crate::row::row_text;

@@ -10,8 +10,6 @@
 
 mod state;
 mod table;
-#[cfg(test)]
-mod tests;
 
 pub use crate::state::LinkState;
 pub use crate::table::LinkTable;

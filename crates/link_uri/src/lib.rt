@@ -14,8 +14,6 @@ mod heard;
 mod laws;
 mod link;
 mod reading;
-#[cfg(test)]
-mod tests;
 
 pub use crate::head::wanted;
 pub use crate::heard::{Heard, Reply};

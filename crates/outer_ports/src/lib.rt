@@ -19,8 +19,6 @@ mod std_ports;
 mod stream;
 mod sure_sink;
 mod sure_source;
-#[cfg(test)]
-mod tests;
 mod writing;
 
 pub use crate::joined::Joined;

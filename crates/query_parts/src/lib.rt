@@ -14,8 +14,6 @@ mod exprs;
 mod groups;
 mod selection;
 mod terms;
-#[cfg(test)]
-mod tests;
 
 pub use crate::exprs::{all_of, any_of, called, compared, negated, same_term, signed, sum_of};
 pub use crate::groups::{

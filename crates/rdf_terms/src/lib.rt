@@ -12,8 +12,6 @@ mod bytes;
 mod memory;
 mod seq;
 mod term;
-#[cfg(test)]
-mod tests;
 mod text;
 mod triple;
 mod write;

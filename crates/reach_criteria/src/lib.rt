@@ -10,8 +10,6 @@
 mod criterion;
 mod following;
 mod gathered;
-#[cfg(test)]
-mod tests;
 
 pub use crate::criterion::{Criterion, selects};
 pub use crate::following::links_of;

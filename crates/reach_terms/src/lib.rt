@@ -12,8 +12,6 @@
 mod laws;
 mod outcome;
 mod record;
-#[cfg(test)]
-mod tests;
 mod web;
 
 pub use crate::laws::looked_up_is_reachable;

@@ -9,8 +9,6 @@
 #![tactic(auto)]
 
 mod pieces;
-#[cfg(test)]
-mod tests;
 mod writer;
 mod written;
 

@@ -12,8 +12,6 @@ mod binding;
 mod merging;
 mod pattern;
 mod row;
-#[cfg(test)]
-mod tests;
 
 pub use crate::binding::bind;
 pub use crate::merging::{compatible, merge};

@@ -12,8 +12,6 @@ mod causes;
 mod failures;
 mod laws;
 mod report;
-#[cfg(test)]
-mod tests;
 mod totals;
 
 pub use crate::failures::has_failed;

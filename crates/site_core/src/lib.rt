@@ -17,8 +17,6 @@ mod reading;
 mod site;
 mod spot;
 mod steps;
-#[cfg(test)]
-mod tests;
 mod writing;
 
 pub use crate::fault::SiteFault;

@@ -12,8 +12,6 @@ mod laws;
 mod lexing;
 mod scan;
 mod state;
-#[cfg(test)]
-mod tests;
 mod token;
 
 pub use crate::kind::QueryKind;

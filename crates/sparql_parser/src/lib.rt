@@ -17,8 +17,6 @@ mod laws;
 mod literals;
 mod queries;
 mod reading;
-#[cfg(test)]
-mod tests;
 mod tokens;
 mod triples;
 

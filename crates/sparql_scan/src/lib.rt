@@ -19,8 +19,6 @@ mod marks;
 mod names;
 mod scanning;
 mod state;
-#[cfg(test)]
-mod tests;
 mod words;
 
 pub use crate::fault::{Fault, ScanError};

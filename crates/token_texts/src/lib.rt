@@ -12,8 +12,6 @@
 
 mod escapes;
 mod iris;
-#[cfg(test)]
-mod tests;
 mod texts;
 mod words;
 

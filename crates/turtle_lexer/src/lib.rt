@@ -13,8 +13,6 @@ mod laws;
 mod lexing;
 mod scan;
 mod state;
-#[cfg(test)]
-mod tests;
 mod token;
 
 pub use crate::kind::TurtleKind;

@@ -17,8 +17,6 @@ mod laws;
 mod next;
 mod reading;
 mod setting;
-#[cfg(test)]
-mod tests;
 mod triples;
 
 pub use crate::fault::ReadFault;

@@ -16,8 +16,6 @@ mod fault;
 mod kind;
 mod scanning;
 mod state;
-#[cfg(test)]
-mod tests;
 mod words;
 
 pub use crate::fault::{Fault, ScanError};

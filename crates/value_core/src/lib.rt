@@ -10,8 +10,6 @@ mod digits;
 mod literals;
 mod numbers;
 mod slices;
-#[cfg(test)]
-mod tests;
 
 pub use crate::literals::{boolean_of, is_judged, number_of, well_formed};
 pub use crate::numbers::{Number, add, compare, sub};

@@ -20,8 +20,6 @@ mod memory_web;
 mod polling;
 mod settings;
 mod site_links;
-#[cfg(test)]
-mod tests;
 mod trying;
 
 pub use crate::fetcher::{Fetcher, Got, Polled};
