@@ -1,6 +1,6 @@
 use crate::algebra_case::{Case, Fault, read_case};
-use crate::cases::{no_case, shown};
-use algebra_core::{evaluate_query, is_monotone, patterns};
+use crate::cases::{append, no_case, plain, shown};
+use algebra_core::{Query, evaluate_query, is_monotone, patterns};
 use rdf_terms::{Memory, Term, write_term};
 use rows_core::{Row, Spot, TriplePattern};
 use std::alloc::Global;
@@ -8,40 +8,39 @@ use std::alloc::Global;
 /// Whether the query is monotone, its patterns, and the number of its solutions with the solutions:
 /// in order where it has keys, else sorted as texts. The module `algebra_case` has the form of a case.
 pub fn answer(alloc: Global, line: &str) -> Result<String, Memory> {
-    match answer_case(alloc, line) {
-        Ok(text) => Ok(text),
+    match read_case(alloc, line) {
+        Ok(case) => case_text(alloc, &case),
         Err(Fault::NoCase) => no_case(alloc),
         Err(Fault::Memory) => Err(Memory),
     }
 }
 
-fn answer_case(alloc: Global, line: &str) -> Result<String, Fault> {
-    let case = read_case(alloc, line)?;
+fn case_text(alloc: Global, case: &Case) -> Result<String, Memory> {
     let monotone = is_monotone(&case.query);
-    let listed = patterns_text(alloc, &case)?;
-    let rows = evaluate_query(alloc, &case.query, case.triples.as_slice())?;
-    let mut texts = row_texts(alloc, rows.as_slice())?;
-    if case.query.order.is_empty() {
-        texts.sort()?;
-    }
-    let count = texts.len();
-    let rows = parted(alloc, texts.as_slice())?;
-    Ok(format!(in alloc; "{monotone} [{listed}] {count} [{rows}]")?)
+    let listed = patterns_text(alloc, &case.query)?;
+    let solutions = solutions_text(alloc, case)?;
+    Ok(format!(in alloc; "{monotone} [{listed}] {solutions}")?)
 }
 
-fn patterns_text(alloc: Global, case: &Case) -> Result<String, Memory> {
-    let mut texts = Vec::new(alloc);
-    for pattern in patterns(alloc, &case.query)?.as_slice() {
-        texts.push(pattern_text(alloc, pattern)?)?;
-    }
+fn patterns_text(alloc: Global, query: &Query) -> Result<String, Memory> {
+    let patterns = patterns(alloc, query)?;
+    let texts = pattern_texts(alloc, patterns.as_slice())?;
     parted(alloc, texts.as_slice())
 }
 
+fn pattern_texts(alloc: Global, patterns: &[TriplePattern]) -> Result<Vec<String>, Memory> {
+    let mut texts = Vec::new(alloc);
+    for pattern in patterns {
+        texts.push(pattern_text(alloc, pattern)?)?;
+    }
+    Ok(texts)
+}
+
 fn pattern_text(alloc: Global, pattern: &TriplePattern) -> Result<String, Memory> {
-    let s = spot_text(alloc, &pattern.s)?;
-    let p = spot_text(alloc, &pattern.p)?;
-    let o = spot_text(alloc, &pattern.o)?;
-    Ok(format!(in alloc; "{s} {p} {o}")?)
+    let mut out = spot_text(alloc, &pattern.s)?;
+    append(&mut out, " ", spot_text(alloc, &pattern.p))?;
+    append(&mut out, " ", spot_text(alloc, &pattern.o))?;
+    Ok(out)
 }
 
 fn spot_text(alloc: Global, spot: &Spot) -> Result<String, Memory> {
@@ -56,6 +55,22 @@ fn term_text(alloc: Global, term: &Term) -> Result<String, Memory> {
     shown(alloc, form.as_str())
 }
 
+fn solutions_text(alloc: Global, case: &Case) -> Result<String, Memory> {
+    let texts = solution_texts(alloc, case)?;
+    let count = texts.len();
+    let rows = parted(alloc, texts.as_slice())?;
+    Ok(format!(in alloc; "{count} [{rows}]")?)
+}
+
+fn solution_texts(alloc: Global, case: &Case) -> Result<Vec<String>, Memory> {
+    let rows = evaluate_query(alloc, &case.query, case.triples.as_slice())?;
+    let mut texts = row_texts(alloc, rows.as_slice())?;
+    if case.query.order.is_empty() {
+        texts.sort()?;
+    }
+    Ok(texts)
+}
+
 fn row_texts(alloc: Global, rows: &[Row]) -> Result<Vec<String>, Memory> {
     let mut texts = Vec::new(alloc);
     for row in rows {
@@ -67,10 +82,7 @@ fn row_texts(alloc: Global, rows: &[Row]) -> Result<Vec<String>, Memory> {
 fn row_text(alloc: Global, row: &Row) -> Result<String, Memory> {
     let mut text = String::new(alloc);
     for cell in row.cells() {
-        if !text.is_empty() {
-            text.push(' ')?;
-        }
-        text.push_str(cell_text(alloc, cell)?.as_str())?;
+        append(&mut text, " ", cell_text(alloc, cell))?;
     }
     Ok(text)
 }
@@ -78,7 +90,7 @@ fn row_text(alloc: Global, row: &Row) -> Result<String, Memory> {
 fn cell_text(alloc: Global, cell: &Option<Term>) -> Result<String, Memory> {
     match cell {
         Some(term) => term_text(alloc, term),
-        None => Ok(String::from_str(alloc, "-")?),
+        None => plain(alloc, "-"),
     }
 }
 

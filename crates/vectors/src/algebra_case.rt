@@ -27,6 +27,10 @@ use rdf_terms::{Memory, Seq, Term, TextBuf, Triple};
 use rows_core::{Spot, TriplePattern};
 use std::alloc::{AllocError, AllocFailed, Global};
 
+const STRING: &str = "http://www.w3.org/2001/XMLSchema#string";
+
+const LANG_STRING: &str = "http://www.w3.org/1999/02/22-rdf-syntax-ns#langString";
+
 /// Why a line has no answer.
 #[derive(Debug, Drop)]
 pub enum Fault {
@@ -125,6 +129,12 @@ impl Stack {
         self.text(field.as_str())
     }
 
+    fn two_fields(&mut self) -> Result<(TextBuf, TextBuf), Fault> {
+        let first = self.field()?;
+        let second = self.field()?;
+        Ok((first, second))
+    }
+
     fn term(&mut self) -> Result<Term, Fault> {
         match pop(&mut self.spots)? {
             Spot::Term(term) => Ok(term),
@@ -132,19 +142,66 @@ impl Stack {
         }
     }
 
+    fn two_terms(&mut self) -> Result<(Term, Term), Fault> {
+        let first = self.term()?;
+        let second = self.term()?;
+        Ok((first, second))
+    }
+
+    fn triple(&mut self) -> Result<Triple, Fault> {
+        let (s, p) = self.two_terms()?;
+        let o = self.term()?;
+        Ok(Triple { s, p, o })
+    }
+
+    fn two_spots(&mut self) -> Result<(Spot, Spot), Fault> {
+        let first = pop(&mut self.spots)?;
+        let second = pop(&mut self.spots)?;
+        Ok((first, second))
+    }
+
+    fn pattern(&mut self) -> Result<TriplePattern, Fault> {
+        let (s, p) = self.two_spots()?;
+        let o = pop(&mut self.spots)?;
+        Ok(TriplePattern { s, p, o })
+    }
+
     fn expr(&mut self) -> Result<Boxed<Expr>, Fault> {
         let expr = pop(&mut self.exprs)?;
         Ok(Boxed::new(self.alloc, expr)?)
     }
 
+    fn two_exprs(&mut self) -> Result<(Boxed<Expr>, Boxed<Expr>), Fault> {
+        let left = self.expr()?;
+        let right = self.expr()?;
+        Ok((left, right))
+    }
+
     fn parts(&mut self, count: &str) -> Result<Items<Expr>, Fault> {
         let count = number(count)?;
-        Ok(Items::from_vec(pop_all(self.alloc, &mut self.exprs, count)?))
+        let parts = pop_all(self.alloc, &mut self.exprs, count)?;
+        Ok(Items::from_vec(parts))
     }
 
     fn body(&mut self) -> Result<Boxed<Algebra>, Fault> {
         let body = pop(&mut self.bodies)?;
         Ok(Boxed::new(self.alloc, body)?)
+    }
+
+    fn two_bodies(&mut self) -> Result<(Boxed<Algebra>, Boxed<Algebra>), Fault> {
+        let left = self.body()?;
+        let right = self.body()?;
+        Ok((left, right))
+    }
+
+    fn push_term(&mut self, term: Result<Term, Fault>) -> Result<(), Fault> {
+        let term = term?;
+        Ok(self.spots.push(Spot::Term(term))?)
+    }
+
+    fn push_expr(&mut self, expr: Result<Expr, Fault>) -> Result<(), Fault> {
+        let expr = expr?;
+        Ok(self.exprs.push(expr)?)
     }
 
     /// A token is a field, a term as it stands, a variable, or a word.
@@ -153,20 +210,18 @@ impl Stack {
             return self.read_field(bytes);
         }
         if let Some(var) = token.strip_prefix('?') {
-            self.spots.push(Spot::Var(number(var)?))?;
+            self.read_spot(var)
         } else if let Some(var) = token.strip_prefix('$') {
-            self.exprs.push(Expr::Var(number(var)?))?;
+            self.read_variable(var)
         } else if let Some(iri) = token.strip_prefix('<') {
-            let iri = iri_of(iri)?;
-            let iri = self.text(iri)?;
-            self.spots.push(Spot::Term(Term::Iri(iri)))?;
+            let term = self.iri(iri);
+            self.push_term(term)
         } else if let Some(literal) = token.strip_prefix('"') {
-            let literal = self.literal(literal)?;
-            self.spots.push(Spot::Term(literal))?;
+            let term = self.literal(literal);
+            self.push_term(term)
         } else {
-            self.read_word(token)?;
+            self.read_word(token)
         }
-        Ok(())
     }
 
     fn read_field(&mut self, bytes: Vec<u8>) -> Result<(), Fault> {
@@ -176,33 +231,61 @@ impl Stack {
         }
     }
 
+    fn read_spot(&mut self, var: &str) -> Result<(), Fault> {
+        let var = number(var)?;
+        Ok(self.spots.push(Spot::Var(var))?)
+    }
+
+    fn read_variable(&mut self, var: &str) -> Result<(), Fault> {
+        let var = number(var)?;
+        Ok(self.exprs.push(Expr::Var(var))?)
+    }
+
+    fn iri(&self, text: &str) -> Result<Term, Fault> {
+        let iri = self.text(iri_of(text)?)?;
+        Ok(Term::Iri(iri))
+    }
+
     fn literal(&self, text: &str) -> Result<Term, Fault> {
         let Some((form, rest)) = text.rsplit_once('"') else {
             return Err(Fault::NoCase);
         };
-        let form = self.text(form)?;
         if rest.is_empty() {
-            let datatype = self.text("http://www.w3.org/2001/XMLSchema#string")?;
-            return Ok(Term::literal(form, datatype, None));
+            return self.typed(form, STRING);
         }
         if let Some(tag) = rest.strip_prefix('@') {
-            let datatype = self.text("http://www.w3.org/1999/02/22-rdf-syntax-ns#langString")?;
-            return Ok(Term::literal(form, datatype, Some(self.text(tag)?)));
+            return self.tagged(form, tag);
         }
-        let Some(datatype) = rest.strip_prefix("^^") else {
-            return Err(Fault::NoCase);
-        };
-        let datatype = self.datatype(datatype)?;
+        match rest.strip_prefix("^^") {
+            Some(datatype) => self.of_datatype(form, datatype),
+            None => Err(Fault::NoCase),
+        }
+    }
+
+    fn typed(&self, form: &str, datatype: &str) -> Result<Term, Fault> {
+        let form = self.text(form)?;
+        let datatype = self.text(datatype)?;
         Ok(Term::literal(form, datatype, None))
     }
 
-    fn datatype(&self, text: &str) -> Result<TextBuf, Fault> {
-        if let Some(name) = text.strip_prefix("xsd:") {
+    fn tagged(&self, form: &str, tag: &str) -> Result<Term, Fault> {
+        let form = self.text(form)?;
+        let tag = self.text(tag)?;
+        self.lang_string(form, tag)
+    }
+
+    fn lang_string(&self, form: TextBuf, tag: TextBuf) -> Result<Term, Fault> {
+        let datatype = self.text(LANG_STRING)?;
+        Ok(Term::literal(form, datatype, Some(tag)))
+    }
+
+    fn of_datatype(&self, form: &str, datatype: &str) -> Result<Term, Fault> {
+        if let Some(name) = datatype.strip_prefix("xsd:") {
             let whole = format!(in self.alloc; "http://www.w3.org/2001/XMLSchema#{name}")?;
-            return self.text(whole.as_str());
+            return self.typed(form, whole.as_str());
         }
-        match text.strip_prefix('<') {
-            Some(iri) => self.text(iri_of(iri)?),
+        match datatype.strip_prefix('<') {
+            Some(iri) => self.typed(form, iri_of(iri)?),
             None => Err(Fault::NoCase),
         }
     }
@@ -213,145 +296,236 @@ impl Stack {
             Some(parts) => parts,
             None => (token, ""),
         };
-        if self.read_query_word(word, argument)? || self.read_body_word(word, argument)? {
-            return Ok(());
+        match word {
+            "|" => Ok(()),
+            "name" => self.read_name(),
+            "width" => self.read_width(argument),
+            "select" => self.read_selected(argument),
+            "distinct" => self.read_distinct(),
+            "asc" => self.read_key(false),
+            "desc" => self.read_key(true),
+            "triple" => self.read_triple(),
+            "pattern" => self.read_pattern(),
+            "bgp" => self.read_patterns(argument),
+            "join" => self.read_join(),
+            "union" => self.read_union(),
+            "filter" => self.read_filter(),
+            "optional" => self.read_optional(),
+            "iri" => self.read_iri(),
+            "blank" => self.read_blank(),
+            "literal" => self.read_literal(),
+            _ => self.read_expr(word, argument),
         }
-        if let Some(term) = self.term_of_word(word)? {
-            self.spots.push(Spot::Term(term))?;
-            return Ok(());
-        }
-        let expr = self.expr_of_word(word, argument)?;
-        self.exprs.push(expr)?;
+    }
+
+    fn read_name(&mut self) -> Result<(), Fault> {
+        let name = self.field()?;
+        Ok(self.names.push(name)?)
+    }
+
+    fn read_width(&mut self, width: &str) -> Result<(), Fault> {
+        self.width = number(width)?;
         Ok(())
     }
 
-    fn read_query_word(&mut self, word: &str, argument: &str) -> Result<bool, Fault> {
-        match word {
-            "|" => {}
-            "name" => {
-                let name = self.field()?;
-                self.names.push(name)?;
-            }
-            "width" => self.width = number(argument)?,
-            "select" => self.select.push(number(argument)?)?,
-            "distinct" => self.distinct = true,
-            "asc" => self.push_key(false)?,
-            "desc" => self.push_key(true)?,
-            "triple" => {
-                let triple = Triple {
-                    s: self.term()?,
-                    p: self.term()?,
-                    o: self.term()?,
-                };
-                self.triples.push(triple)?;
-            }
-            _ => return Ok(false),
-        }
-        Ok(true)
+    fn read_selected(&mut self, var: &str) -> Result<(), Fault> {
+        let var = number(var)?;
+        Ok(self.select.push(var)?)
     }
 
-    fn push_key(&mut self, descending: bool) -> Result<(), Fault> {
+    fn read_distinct(&mut self) -> Result<(), Fault> {
+        self.distinct = true;
+        Ok(())
+    }
+
+    fn read_key(&mut self, descending: bool) -> Result<(), Fault> {
         let expr = pop(&mut self.exprs)?;
         Ok(self.keys.push(Key { expr, descending })?)
     }
 
-    fn read_body_word(&mut self, word: &str, argument: &str) -> Result<bool, Fault> {
-        let body = match word {
-            "pattern" => {
-                let pattern = TriplePattern {
-                    s: pop(&mut self.spots)?,
-                    p: pop(&mut self.spots)?,
-                    o: pop(&mut self.spots)?,
-                };
-                self.patterns.push(pattern)?;
-                return Ok(true);
-            }
-            "bgp" => {
-                let count = number(argument)?;
-                Algebra::Bgp(Seq::from_vec(pop_all(self.alloc, &mut self.patterns, count)?))
-            }
-            "join" => Algebra::Join(self.body()?, self.body()?),
-            "union" => Algebra::Union(self.body()?, self.body()?),
-            "filter" => Algebra::Filter(pop(&mut self.exprs)?, self.body()?),
-            "optional" => Algebra::LeftJoin(self.body()?, self.body()?, pop(&mut self.exprs)?),
-            _ => return Ok(false),
-        };
-        self.bodies.push(body)?;
-        Ok(true)
+    fn read_triple(&mut self) -> Result<(), Fault> {
+        let triple = self.triple()?;
+        Ok(self.triples.push(triple)?)
     }
 
-    fn term_of_word(&mut self, word: &str) -> Result<Option<Term>, Fault> {
-        match word {
-            "iri" => Ok(Some(Term::Iri(self.field()?))),
-            "blank" => {
-                let doc = self.field()?;
-                let number = self.field()?;
-                match number.as_str().parse::<u64>() {
-                    Ok(n) => Ok(Some(Term::Blank { doc, n })),
-                    Err(_) => Err(Fault::NoCase),
-                }
-            }
-            "literal" => {
-                let form = self.field()?;
-                let datatype = self.field()?;
-                let tag = self.field()?;
-                let tag = if tag.as_str().is_empty() {
-                    None
-                } else {
-                    Some(tag)
-                };
-                Ok(Some(Term::literal(form, datatype, tag)))
-            }
-            _ => Ok(None),
+    fn read_pattern(&mut self) -> Result<(), Fault> {
+        let pattern = self.pattern()?;
+        Ok(self.patterns.push(pattern)?)
+    }
+
+    fn read_patterns(&mut self, count: &str) -> Result<(), Fault> {
+        let count = number(count)?;
+        let patterns = pop_all(self.alloc, &mut self.patterns, count)?;
+        Ok(self.bodies.push(Algebra::Bgp(Seq::from_vec(patterns)))?)
+    }
+
+    fn read_join(&mut self) -> Result<(), Fault> {
+        let (left, right) = self.two_bodies()?;
+        Ok(self.bodies.push(Algebra::Join(left, right))?)
+    }
+
+    fn read_union(&mut self) -> Result<(), Fault> {
+        let (left, right) = self.two_bodies()?;
+        Ok(self.bodies.push(Algebra::Union(left, right))?)
+    }
+
+    fn read_filter(&mut self) -> Result<(), Fault> {
+        let condition = pop(&mut self.exprs)?;
+        let body = self.body()?;
+        Ok(self.bodies.push(Algebra::Filter(condition, body))?)
+    }
+
+    fn read_optional(&mut self) -> Result<(), Fault> {
+        let (left, right) = self.two_bodies()?;
+        let condition = pop(&mut self.exprs)?;
+        Ok(self.bodies.push(Algebra::LeftJoin(left, right, condition))?)
+    }
+
+    fn read_iri(&mut self) -> Result<(), Fault> {
+        let iri = self.field()?;
+        self.push_term(Ok(Term::Iri(iri)))
+    }
+
+    fn read_blank(&mut self) -> Result<(), Fault> {
+        let (doc, number) = self.two_fields()?;
+        match number.as_str().parse::<u64>() {
+            Ok(n) => self.push_term(Ok(Term::Blank { doc, n })),
+            Err(_) => Err(Fault::NoCase),
         }
     }
 
-    fn expr_of_word(&mut self, word: &str, argument: &str) -> Result<Expr, Fault> {
+    fn read_literal(&mut self) -> Result<(), Fault> {
+        let (form, datatype) = self.two_fields()?;
+        let tag = self.field()?;
+        self.push_term(Ok(Term::literal(form, datatype, tag_of(tag))))
+    }
+
+    fn read_expr(&mut self, word: &str, argument: &str) -> Result<(), Fault> {
+        let expr = self.expr_of(word, argument);
+        self.push_expr(expr)
+    }
+
+    fn expr_of(&mut self, word: &str, argument: &str) -> Result<Expr, Fault> {
         if let Some(op) = compare_op(word) {
-            return Ok(Expr::Compare {
-                op,
-                left: self.expr()?,
-                right: self.expr()?,
-            });
+            return self.compare(op);
         }
         if let Some(function) = function_of(word) {
-            return Ok(Expr::Call {
-                function,
-                of: self.expr()?,
-            });
+            return self.call(function);
         }
         match word {
-            "const" => Ok(Expr::Constant(self.term()?)),
-            "or" => Ok(Expr::Or(self.parts(argument)?)),
-            "and" => Ok(Expr::And(self.parts(argument)?)),
-            "not" => Ok(Expr::Not(self.expr()?)),
+            "const" => self.constant(),
+            "or" => self.any(argument),
+            "and" => self.all(argument),
+            "not" => self.not(),
             "sum" => self.sum(argument),
             "plus" => self.signed(Sign::Plus),
             "minus" => self.signed(Sign::Minus),
-            "bound" => Ok(Expr::Bound(number(argument)?)),
-            "same" => Ok(Expr::SameTerm {
-                left: self.expr()?,
-                right: self.expr()?,
-            }),
+            "bound" => bound(argument),
+            "same" => self.same_term(),
             _ => Err(Fault::NoCase),
         }
     }
 
+    fn compare(&mut self, op: CompareOp) -> Result<Expr, Fault> {
+        let (left, right) = self.two_exprs()?;
+        Ok(Expr::Compare { op, left, right })
+    }
+
+    fn call(&mut self, function: Function) -> Result<Expr, Fault> {
+        let of = self.expr()?;
+        Ok(Expr::Call { function, of })
+    }
+
+    fn constant(&mut self) -> Result<Expr, Fault> {
+        let term = self.term()?;
+        Ok(Expr::Constant(term))
+    }
+
+    fn any(&mut self, count: &str) -> Result<Expr, Fault> {
+        let parts = self.parts(count)?;
+        Ok(Expr::Or(parts))
+    }
+
+    fn all(&mut self, count: &str) -> Result<Expr, Fault> {
+        let parts = self.parts(count)?;
+        Ok(Expr::And(parts))
+    }
+
+    fn not(&mut self) -> Result<Expr, Fault> {
+        let of = self.expr()?;
+        Ok(Expr::Not(of))
+    }
+
+    fn same_term(&mut self) -> Result<Expr, Fault> {
+        let (left, right) = self.two_exprs()?;
+        Ok(Expr::SameTerm { left, right })
+    }
+
     fn signed(&mut self, sign: Sign) -> Result<Expr, Fault> {
-        Ok(Expr::Signed {
-            sign,
-            of: self.expr()?,
-        })
+        let of = self.expr()?;
+        Ok(Expr::Signed { sign, of })
     }
 
     fn sum(&mut self, signs: &str) -> Result<Expr, Fault> {
         let first = self.expr()?;
-        let mut rest = Items::new(self.alloc);
-        for sign in signs.chars() {
-            let operand = pop(&mut self.exprs)?;
-            rest.push((sign_of(sign)?, operand))?;
-        }
+        let rest = self.operands(signs)?;
         Ok(Expr::Sum { first, rest })
+    }
+
+    fn operands(&mut self, signs: &str) -> Result<Items<(Sign, Expr)>, Fault> {
+        let mut operands = Items::new(self.alloc);
+        for sign in signs.chars() {
+            operands.push(self.operand(sign)?)?;
+        }
+        Ok(operands)
+    }
+
+    fn operand(&mut self, sign: char) -> Result<(Sign, Expr), Fault> {
+        let sign = sign_of(sign)?;
+        let operand = pop(&mut self.exprs)?;
+        Ok((sign, operand))
+    }
+
+    /// Reads the line, and gives the query's body.
+    fn read_all(&mut self, line: &str) -> Result<Algebra, Fault> {
+        for token in line.rsplit(' ') {
+            self.read(token)?;
+        }
+        pop(&mut self.bodies)
+    }
+
+    fn into_case(self, body: Algebra) -> Case {
+        let query = Query {
+            names: Seq::from_vec(reversed(self.names)),
+            width: self.width,
+            select: Seq::from_vec(reversed(self.select)),
+            distinct: self.distinct,
+            body,
+            order: Seq::from_vec(reversed(self.keys)),
+        };
+        Case {
+            query,
+            triples: reversed(self.triples),
+        }
+    }
+}
+
+fn reversed<T: Drop>(items: Vec<T>) -> Vec<T> {
+    let mut items = items;
+    items.reverse();
+    items
+}
+
+fn bound(var: &str) -> Result<Expr, Fault> {
+    let var = number(var)?;
+    Ok(Expr::Bound(var))
+}
+
+fn tag_of(tag: TextBuf) -> Option<TextBuf> {
+    if tag.as_str().is_empty() {
+        None
+    } else {
+        Some(tag)
     }
 }
 
@@ -397,25 +571,8 @@ fn function_of(word: &str) -> Option<Function> {
 /// Reads a case.
 pub fn read_case(alloc: Global, line: &str) -> Result<Case, Fault> {
     let mut stack = Stack::new(alloc);
-    for token in line.rsplit(' ') {
-        stack.read(token)?;
+    match stack.read_all(line) {
+        Ok(body) => Ok(stack.into_case(body)),
+        Err(fault) => Err(fault),
     }
-    let body = pop(&mut stack.bodies)?;
-    let mut names = stack.names;
-    let mut select = stack.select;
-    let mut order = stack.keys;
-    let mut triples = stack.triples;
-    names.reverse();
-    select.reverse();
-    order.reverse();
-    triples.reverse();
-    let query = Query {
-        names: Seq::from_vec(names),
-        width: stack.width,
-        select: Seq::from_vec(select),
-        distinct: stack.distinct,
-        body,
-        order: Seq::from_vec(order),
-    };
-    Ok(Case { query, triples })
 }

@@ -18,7 +18,8 @@ pub fn bytes(alloc: Global, piece: &str) -> Result<Option<Vec<u8>>, Memory> {
     }
 }
 
-fn text(alloc: Global, piece: &str) -> Result<Option<String>, Memory> {
+/// The text of a field, or none where the piece is no field or its bytes are no text.
+pub fn text(alloc: Global, piece: &str) -> Result<Option<String>, Memory> {
     match bytes(alloc, piece)? {
         Some(bytes) => Ok(String::from_utf8(bytes).ok()),
         None => Ok(None),
@@ -39,7 +40,12 @@ pub fn texts(alloc: Global, line: &str) -> Result<Option<Vec<String>>, Memory> {
 
 /// What is said of a line that is no case of its kind.
 pub fn no_case(alloc: Global) -> Result<String, Memory> {
-    Ok(String::from_str(alloc, "no case")?)
+    plain(alloc, "no case")
+}
+
+/// An answer that is always the same.
+pub fn plain(alloc: Global, answer: &str) -> Result<String, Memory> {
+    Ok(String::from_str(alloc, answer)?)
 }
 
 /// A text as a field: plain, with `=` in front, where all of its characters are printable ASCII;
@@ -50,4 +56,18 @@ pub fn shown(alloc: Global, text: &str) -> Result<String, Memory> {
     }
     let digits = hex::encode(alloc, text)?;
     Ok(format!(in alloc; "x{digits}")?)
+}
+
+/// Appends a part to an answer: behind `between`, where the answer has one already.
+pub fn append(
+    answer: &mut String,
+    between: &str,
+    part: Result<String, Memory>,
+) -> Result<(), Memory> {
+    let part = part?;
+    if !answer.is_empty() {
+        answer.push_str(between)?;
+    }
+    answer.push_str(part.as_str())?;
+    Ok(())
 }

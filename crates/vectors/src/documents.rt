@@ -1,12 +1,23 @@
-use crate::cases::{bytes, no_case, shown};
+use crate::cases::{bytes, no_case, shown, text};
 use doc_reader::read_ntriples;
 use rdf_terms::{Memory, Term, Triple, write_term};
 use std::alloc::Global;
 use turtle_reader::ReadFault;
 
 fn push_term(alloc: Global, out: &mut String, term: &Term) -> Result<(), Memory> {
-    let form = shown(alloc, write_term(alloc, term)?.as_str())?;
+    let written = write_term(alloc, term)?;
+    let form = shown(alloc, written.as_str())?;
     out.push_str(form.as_str())?;
+    Ok(())
+}
+
+fn push_triple(alloc: Global, out: &mut String, triple: &Triple) -> Result<(), Memory> {
+    push_term(alloc, out, &triple.s)?;
+    out.push_str(" ")?;
+    push_term(alloc, out, &triple.p)?;
+    out.push_str(" ")?;
+    push_term(alloc, out, &triple.o)?;
+    out.push_str(";")?;
     Ok(())
 }
 
@@ -14,12 +25,7 @@ fn push_term(alloc: Global, out: &mut String, term: &Term) -> Result<(), Memory>
 fn triples_text(alloc: Global, triples: &[Triple]) -> Result<String, Memory> {
     let mut out = String::new(alloc);
     for triple in triples {
-        push_term(alloc, &mut out, &triple.s)?;
-        out.push_str(" ")?;
-        push_term(alloc, &mut out, &triple.p)?;
-        out.push_str(" ")?;
-        push_term(alloc, &mut out, &triple.o)?;
-        out.push_str(";")?;
+        push_triple(alloc, &mut out, triple)?;
     }
     Ok(out)
 }
@@ -33,16 +39,23 @@ fn answer_text(alloc: Global, read: Result<Vec<Triple>, ReadFault>) -> Result<St
     }
 }
 
-/// The triples of an N-Triples text, or its fault: of the document's name and the text.
-pub fn ntriples(alloc: Global, line: &str) -> Result<String, Memory> {
-    let Some((name, text)) = line.split_once(' ') else {
+fn named(alloc: Global, name: &str, document: &str) -> Result<String, Memory> {
+    let Some(name) = text(alloc, name)? else {
         return no_case(alloc);
     };
-    match (bytes(alloc, name)?, bytes(alloc, text)?) {
-        (Some(name), Some(text)) => match String::from_utf8(name) {
-            Ok(name) => answer_text(alloc, read_ntriples(alloc, name.as_str(), text.as_slice())),
-            Err(_) => no_case(alloc),
-        },
-        _ => no_case(alloc),
+    let Some(document) = bytes(alloc, document)? else {
+        return no_case(alloc);
+    };
+    answer_text(
+        alloc,
+        read_ntriples(alloc, name.as_str(), document.as_slice()),
+    )
+}
+
+/// The triples of an N-Triples text, or its fault: of the document's name and the text.
+pub fn ntriples(alloc: Global, line: &str) -> Result<String, Memory> {
+    match line.split_once(' ') {
+        Some((name, document)) => named(alloc, name, document),
+        None => no_case(alloc),
     }
 }

@@ -1,4 +1,4 @@
-use crate::cases::{bytes, no_case, shown};
+use crate::cases::{bytes, no_case, plain, shown};
 use expr_eval::{CompareOp, Env, Evaluated, Expr, Function, Sign, evaluate, evaluate_truth};
 use items_core::{Boxed, Items};
 use rdf_terms::{Memory, Term, TextBuf, write_term};
@@ -32,6 +32,39 @@ struct Stacks {
 
 type Made = Result<Option<Expr>, Memory>;
 
+fn constant(term: Option<Term>) -> Made {
+    match term {
+        Some(term) => Ok(Some(Expr::Constant(term))),
+        None => Ok(None),
+    }
+}
+
+fn lang_string(alloc: Global, lexical: TextBuf, tag: TextBuf) -> Made {
+    let datatype = TextBuf::from_str(alloc, LANG_STRING)?;
+    constant(Some(Term::literal(lexical, datatype, Some(tag))))
+}
+
+fn sign_of(byte: u8) -> Sign {
+    if byte == b'-' {
+        Sign::Minus
+    } else {
+        Sign::Plus
+    }
+}
+
+/// Operands, each with the sign before it.
+fn signed_operands(
+    alloc: Global,
+    signs: &str,
+    operands: Vec<Expr>,
+) -> Result<Items<(Sign, Expr)>, Memory> {
+    let mut rest = Items::new(alloc);
+    for (sign, operand) in signs.bytes().zip(operands) {
+        rest.push((sign_of(sign), operand))?;
+    }
+    Ok(rest)
+}
+
 impl Stacks {
     fn new(alloc: Global) -> Stacks {
         Stacks {
@@ -59,18 +92,18 @@ impl Stacks {
         Some(Term::literal(lexical, datatype, None))
     }
 
-    fn typed(&mut self, alloc: Global, name: &str) -> Result<Option<Term>, Memory> {
+    fn typed(&mut self, alloc: Global, name: &str) -> Made {
         let datatype = format!(in alloc; "http://www.w3.org/2001/XMLSchema#{name}")?;
-        self.texts.push(TextBuf::from_string(datatype)?)?;
-        Ok(self.literal())
+        let datatype = TextBuf::from_string(datatype)?;
+        self.texts.push(datatype)?;
+        constant(self.literal())
     }
 
-    fn tagged(&mut self, alloc: Global) -> Result<Option<Term>, Memory> {
-        let (Some(tag), Some(lexical)) = (self.texts.pop(), self.texts.pop()) else {
-            return Ok(None);
-        };
-        let datatype = TextBuf::from_str(alloc, LANG_STRING)?;
-        Ok(Some(Term::literal(lexical, datatype, Some(tag))))
+    fn tagged(&mut self, alloc: Global) -> Made {
+        match (self.texts.pop(), self.texts.pop()) {
+            (Some(tag), Some(lexical)) => lang_string(alloc, lexical, tag),
+            _ => Ok(None),
+        }
     }
 
     fn boxed(&mut self, alloc: Global) -> Result<Option<Boxed<Expr>>, Memory> {
@@ -155,26 +188,18 @@ impl Stacks {
             return Ok(None);
         };
         let operands = self.exprs.split_off(at)?;
-        let Some(first) = self.boxed(alloc)? else {
-            return Ok(None);
-        };
-        let mut rest = Items::new(alloc);
-        for (sign, operand) in signs.bytes().zip(operands) {
-            let sign = if sign == b'-' {
-                Sign::Minus
-            } else {
-                Sign::Plus
-            };
-            rest.push((sign, operand))?;
+        let rest = signed_operands(alloc, signs, operands)?;
+        match self.boxed(alloc)? {
+            Some(first) => Ok(Some(Expr::Sum { first, rest })),
+            None => Ok(None),
         }
-        Ok(Some(Expr::Sum { first, rest }))
     }
 
     fn named(&mut self, alloc: Global, word: &str) -> Made {
         match word {
-            "iri" => Ok(self.iri().map(Expr::Constant)),
-            "literal" => Ok(self.literal().map(Expr::Constant)),
-            "tagged" => Ok(self.tagged(alloc)?.map(Expr::Constant)),
+            "iri" => constant(self.iri()),
+            "literal" => constant(self.literal()),
+            "tagged" => self.tagged(alloc),
             "not" => self.not(alloc),
             "eq" => self.compare(alloc, CompareOp::Equal),
             "ne" => self.compare(alloc, CompareOp::NotEqual),
@@ -199,8 +224,8 @@ impl Stacks {
         match word {
             "var" => Ok(argument.parse::<u16>().ok().map(Expr::Var)),
             "bound" => Ok(argument.parse::<u16>().ok().map(Expr::Bound)),
-            "blank" => Ok(self.blank(argument).map(Expr::Constant)),
-            "xsd" => Ok(self.typed(alloc, argument)?.map(Expr::Constant)),
+            "blank" => constant(self.blank(argument)),
+            "xsd" => self.typed(alloc, argument),
             "or" => self.any(argument),
             "and" => self.all(argument),
             "sum" => self.sum(alloc, argument),
@@ -229,18 +254,15 @@ impl Stacks {
         }
     }
 
-    fn take(&mut self, alloc: Global, word: &str) -> Result<bool, Memory> {
-        if word == "bind" {
-            return self.bind();
+    fn expr_of(&mut self, alloc: Global, word: &str) -> Made {
+        match word.split_once(':') {
+            Some((word, argument)) => self.with_argument(alloc, word, argument),
+            None => self.named(alloc, word),
         }
-        if let Some(field) = bytes(alloc, word)? {
-            return self.field(field);
-        }
-        let made = match word.split_once(':') {
-            Some((word, argument)) => self.with_argument(alloc, word, argument)?,
-            None => self.named(alloc, word)?,
-        };
-        match made {
+    }
+
+    fn push(&mut self, made: Made) -> Result<bool, Memory> {
+        match made? {
             Some(expr) => {
                 self.exprs.push(expr)?;
                 Ok(true)
@@ -248,23 +270,47 @@ impl Stacks {
             None => Ok(false),
         }
     }
+
+    fn take(&mut self, alloc: Global, word: &str) -> Result<bool, Memory> {
+        if word == "bind" {
+            return self.bind();
+        }
+        if let Some(field) = bytes(alloc, word)? {
+            return self.field(field);
+        }
+        let made = self.expr_of(alloc, word);
+        self.push(made)
+    }
+
+    /// Whether each word of the line was taken.
+    fn take_all(&mut self, alloc: Global, line: &str) -> Result<bool, Memory> {
+        for word in line.split(' ') {
+            if !self.take(alloc, word)? {
+                return Ok(false);
+            }
+        }
+        Ok(true)
+    }
 }
 
-fn value_text(alloc: Global, value: &Evaluated) -> Result<String, Memory> {
-    match value {
-        Evaluated::Value(term) => shown(alloc, write_term(alloc, term)?.as_str()),
-        Evaluated::TypeError => Ok(String::from_str(alloc, "error")?),
+fn value_text(alloc: Global, value: Result<Evaluated, Memory>) -> Result<String, Memory> {
+    match value? {
+        Evaluated::Value(term) => shown(alloc, write_term(alloc, &term)?.as_str()),
+        Evaluated::TypeError => plain(alloc, "error"),
+    }
+}
+
+fn truth_text(truth: Option<bool>) -> &'static str {
+    match truth {
+        Some(true) => "true",
+        Some(false) => "false",
+        None => "error",
     }
 }
 
 fn evaluated_text(alloc: Global, expr: &Expr, bound: &Bound) -> Result<String, Memory> {
-    let value = evaluate(alloc, expr, bound)?;
-    let value = value_text(alloc, &value)?;
-    let truth = match evaluate_truth(alloc, expr, bound)? {
-        Some(true) => "true",
-        Some(false) => "false",
-        None => "error",
-    };
+    let value = value_text(alloc, evaluate(alloc, expr, bound))?;
+    let truth = truth_text(evaluate_truth(alloc, expr, bound)?);
     Ok(format!(in alloc; "{value} {truth}")?)
 }
 
@@ -273,10 +319,8 @@ fn evaluated_text(alloc: Global, expr: &Expr, bound: &Bound) -> Result<String, M
 /// constants of texts, and `bind` makes the last one the term of the next variable.
 pub fn answer(alloc: Global, line: &str) -> Result<String, Memory> {
     let mut stacks = Stacks::new(alloc);
-    for word in line.split(' ') {
-        if !stacks.take(alloc, word)? {
-            return no_case(alloc);
-        }
+    if !stacks.take_all(alloc, line)? {
+        return no_case(alloc);
     }
     match stacks.exprs.as_slice() {
         [expr] => evaluated_text(alloc, expr, &stacks.bound),

@@ -40,13 +40,13 @@ fn answer_of_kind(alloc: Global, kind: &str, line: &str) -> Result<String, Memor
         "sparql_tokens" => tokens::query_answer(alloc, line),
         "sparql" => queries::answer(alloc, line),
         "turtle" => turtle::answer(alloc, line),
-        _ => Ok(String::from_str(alloc, "no kind")?),
+        _ => cases::plain(alloc, "no kind"),
     }
 }
 
 fn answer(alloc: Global, kind: &str, line: &str) -> Result<String, Memory> {
     if line.starts_with('#') {
-        return Ok(String::from_str(alloc, line)?);
+        return cases::plain(alloc, line);
     }
     if kind != "mixed" {
         return answer_of_kind(alloc, kind, line);

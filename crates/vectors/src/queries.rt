@@ -1,7 +1,7 @@
-use crate::cases::{no_case, shown, texts};
+use crate::cases::{no_case, plain, shown, texts};
 use algebra_core::{Algebra, Key, Query};
 use expr_eval::{CompareOp, Expr, Function, Sign};
-use rdf_terms::{Memory, Term, write_term};
+use rdf_terms::{Memory, Term, TextBuf, write_term};
 use rows_core::{Spot, TriplePattern};
 use sparql_parser::{QueryFault, read_query};
 use std::alloc::Global;
@@ -10,12 +10,12 @@ use std::alloc::Global;
 /// `algebra_case`, but that a term is one field, and that in a sum each sign stands before its operand
 /// and `end` behind them.
 pub fn answer(alloc: Global, line: &str) -> Result<String, Memory> {
-    match texts(alloc, line)? {
-        Some(fields) => match fields.as_slice() {
-            [text] => answer_to(alloc, text.as_str()),
-            _ => no_case(alloc),
-        },
-        None => no_case(alloc),
+    let Some(fields) = texts(alloc, line)? else {
+        return no_case(alloc);
+    };
+    match fields.as_slice() {
+        [text] => answer_to(alloc, text.as_str()),
+        _ => no_case(alloc),
     }
 }
 
@@ -25,23 +25,32 @@ fn answer_to(alloc: Global, text: &str) -> Result<String, Memory> {
         Err(QueryFault::Syntax { at }) => Ok(format!(in alloc; "syntax {at}")?),
         Err(QueryFault::Unsupported { at }) => Ok(format!(in alloc; "unsupported {at}")?),
         Err(QueryFault::Deep { at }) => Ok(format!(in alloc; "deep {at}")?),
-        Err(QueryFault::LongQuery) => Ok(String::from_str(alloc, "long 65536")?),
+        Err(QueryFault::LongQuery) => plain(alloc, "long 65536"),
         Err(QueryFault::Memory) => Err(Memory),
     }
 }
 
 fn query_text(alloc: Global, query: &Query) -> Result<String, Memory> {
     let mut out = String::new(alloc);
-    for name in query.names.as_slice() {
-        word(&mut out, "name")?;
-        word(&mut out, shown(alloc, name.as_str())?.as_str())?;
-    }
-    let width = query.width;
-    word(&mut out, format!(in alloc; "width.{width}")?.as_str())?;
-    write_selection(alloc, &mut out, query)?;
-    write_algebra(alloc, &mut out, &query.body)?;
-    write_keys(alloc, &mut out, query.order.as_slice())?;
+    write_query(alloc, &mut out, query)?;
     Ok(out)
+}
+
+fn write_query(alloc: Global, out: &mut String, query: &Query) -> Result<(), Memory> {
+    write_names(alloc, out, query.names.as_slice())?;
+    let width = query.width;
+    word(out, format!(in alloc; "width.{width}")?.as_str())?;
+    write_selection(alloc, out, query)?;
+    write_algebra(alloc, out, &query.body)?;
+    write_keys(alloc, out, query.order.as_slice())
+}
+
+fn write_names(alloc: Global, out: &mut String, names: &[TextBuf]) -> Result<(), Memory> {
+    for name in names {
+        word(out, "name")?;
+        word(out, shown(alloc, name.as_str())?.as_str())?;
+    }
+    Ok(())
 }
 
 fn write_selection(alloc: Global, out: &mut String, query: &Query) -> Result<(), Memory> {

@@ -1,4 +1,4 @@
-use crate::cases::{no_case, shown, texts};
+use crate::cases::{no_case, plain, shown, texts};
 use expr_eval::{ebv, equal, less, order};
 use json_results::row_text;
 use rdf_terms::{Memory, Term, TextBuf, write_term};
@@ -13,6 +13,39 @@ fn tag_of(alloc: Global, tag: &str) -> Result<Option<TextBuf>, Memory> {
     Ok(Some(TextBuf::from_str(alloc, tag)?))
 }
 
+fn iri(alloc: Global, text: &str) -> Result<Option<Term>, Memory> {
+    let text = TextBuf::from_str(alloc, text)?;
+    Ok(Some(Term::Iri(text)))
+}
+
+fn blank(alloc: Global, doc: &str, number: &str) -> Result<Option<Term>, Memory> {
+    let Ok(n) = number.parse::<u64>() else {
+        return Ok(None);
+    };
+    let doc = TextBuf::from_str(alloc, doc)?;
+    Ok(Some(Term::Blank { doc, n }))
+}
+
+fn tagged(
+    lexical: TextBuf,
+    datatype: TextBuf,
+    tag: Result<Option<TextBuf>, Memory>,
+) -> Result<Option<Term>, Memory> {
+    let tag = tag?;
+    Ok(Some(Term::literal(lexical, datatype, tag)))
+}
+
+fn literal(
+    alloc: Global,
+    lexical: &str,
+    datatype: &str,
+    tag: &str,
+) -> Result<Option<Term>, Memory> {
+    let lexical = TextBuf::from_str(alloc, lexical)?;
+    let datatype = TextBuf::from_str(alloc, datatype)?;
+    tagged(lexical, datatype, tag_of(alloc, tag))
+}
+
 /// A term of four fields: its kind, its text, and what a kind has beside it.
 fn term_of(
     alloc: Global,
@@ -21,18 +54,39 @@ fn term_of(
     more: &str,
     tag: &str,
 ) -> Result<Option<Term>, Memory> {
-    let text = TextBuf::from_str(alloc, text)?;
     match kind {
-        "iri" => Ok(Some(Term::Iri(text))),
-        "blank" => match more.parse::<u64>() {
-            Ok(n) => Ok(Some(Term::Blank { doc: text, n })),
-            Err(_) => Ok(None),
-        },
-        "literal" => {
-            let datatype = TextBuf::from_str(alloc, more)?;
-            Ok(Some(Term::literal(text, datatype, tag_of(alloc, tag)?)))
-        }
+        "iri" => iri(alloc, text),
+        "blank" => blank(alloc, text, more),
+        "literal" => literal(alloc, text, more, tag),
         _ => Ok(None),
+    }
+}
+
+fn form(alloc: Global, term: &Term) -> Result<String, Memory> {
+    let written = write_term(alloc, term)?;
+    shown(alloc, written.as_str())
+}
+
+fn row_digits(alloc: Global, names: &[TextBuf], cells: &[Option<Term>]) -> Result<String, Memory> {
+    let row = row_text(alloc, names, cells, true)?;
+    Ok(hex::encode(alloc, row.as_slice())?)
+}
+
+fn row(alloc: Global, term: Term) -> Result<String, Memory> {
+    let name = TextBuf::from_str(alloc, "v")?;
+    row_digits(alloc, &[name], &[Some(term)])
+}
+
+fn both_forms(alloc: Global, term: Term) -> Result<String, Memory> {
+    let form = form(alloc, &term)?;
+    let row = row(alloc, term)?;
+    Ok(format!(in alloc; "{form} x{row}")?)
+}
+
+fn forms_of(alloc: Global, term: Result<Option<Term>, Memory>) -> Result<String, Memory> {
+    match term? {
+        Some(term) => both_forms(alloc, term),
+        None => no_case(alloc),
     }
 }
 
@@ -42,17 +96,7 @@ pub fn forms(alloc: Global, line: &str) -> Result<String, Memory> {
         return no_case(alloc);
     };
     match fields.as_slice() {
-        [kind, text, more, tag] => {
-            let Some(term) = term_of(alloc, kind, text, more, tag)? else {
-                return no_case(alloc);
-            };
-            let form = shown(alloc, write_term(alloc, &term)?.as_str())?;
-            let names = [TextBuf::from_str(alloc, "v")?];
-            let cells = [Some(term)];
-            let row = row_text(alloc, &names, &cells, true)?;
-            let digits = hex::encode(alloc, row.as_slice())?;
-            Ok(format!(in alloc; "{form} x{digits}")?)
-        }
+        [kind, text, more, tag] => forms_of(alloc, term_of(alloc, kind, text, more, tag)),
         _ => no_case(alloc),
     }
 }
@@ -79,7 +123,7 @@ fn number_text(alloc: Global, number: Option<Number>) -> Result<String, Memory> 
             let (scaled, whole) = (number.scaled, truth_text(Some(number.whole)));
             Ok(format!(in alloc; "{scaled} {whole}")?)
         }
-        None => Ok(String::from_str(alloc, "none")?),
+        None => plain(alloc, "none"),
     }
 }
 
@@ -108,7 +152,7 @@ fn literal_text(alloc: Global, term: &Term) -> Result<String, Memory> {
             lexical,
             ..
         } => form_text(alloc, datatype.as_str(), lexical.as_str()),
-        _ => Ok(String::from_str(alloc, "no literal")?),
+        _ => plain(alloc, "no literal"),
     }
 }
 
@@ -123,14 +167,16 @@ pub fn literal_forms(alloc: Global, line: &str) -> Result<String, Memory> {
     }
 }
 
+fn both_sums(alloc: Global, x: Number, y: Number) -> Result<String, Memory> {
+    let sum = number_text(alloc, add(x, y))?;
+    let difference = number_text(alloc, sub(x, y))?;
+    Ok(format!(in alloc; "{sum}, {difference}")?)
+}
+
 fn sums_text(alloc: Global, a: &Term, b: &Term) -> Result<String, Memory> {
     match (number_of_term(a), number_of_term(b)) {
-        (Some(x), Some(y)) => {
-            let sum = number_text(alloc, add(x, y))?;
-            let difference = number_text(alloc, sub(x, y))?;
-            Ok(format!(in alloc; "{sum}, {difference}")?)
-        }
-        _ => Ok(String::from_str(alloc, "no numbers")?),
+        (Some(x), Some(y)) => both_sums(alloc, x, y),
+        _ => plain(alloc, "no numbers"),
     }
 }
 
@@ -144,20 +190,29 @@ fn pair_text(alloc: Global, a: &Term, b: &Term) -> Result<String, Memory> {
     Ok(format!(in alloc; "{truth} {same} {smaller} {ordered}; {literal}; {sums}")?)
 }
 
+fn values_of(
+    alloc: Global,
+    a: Result<Option<Term>, Memory>,
+    b: Result<Option<Term>, Memory>,
+) -> Result<String, Memory> {
+    match (&a, &b) {
+        (Ok(Some(a)), Ok(Some(b))) => pair_text(alloc, a, b),
+        (Ok(_), Ok(_)) => no_case(alloc),
+        _ => Err(Memory),
+    }
+}
+
 /// What two terms come to: truth, comparisons, order; the first one's value; sum and difference.
 pub fn values(alloc: Global, line: &str) -> Result<String, Memory> {
     let Some(fields) = texts(alloc, line)? else {
         return no_case(alloc);
     };
     match fields.as_slice() {
-        [kind, text, more, tag, kind_b, text_b, more_b, tag_b] => {
-            let a = term_of(alloc, kind, text, more, tag)?;
-            let b = term_of(alloc, kind_b, text_b, more_b, tag_b)?;
-            match (a, b) {
-                (Some(a), Some(b)) => pair_text(alloc, &a, &b),
-                _ => no_case(alloc),
-            }
-        }
+        [kind, text, more, tag, kind_b, text_b, more_b, tag_b] => values_of(
+            alloc,
+            term_of(alloc, kind, text, more, tag),
+            term_of(alloc, kind_b, text_b, more_b, tag_b),
+        ),
         _ => no_case(alloc),
     }
 }
