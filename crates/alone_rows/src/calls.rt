@@ -274,6 +274,31 @@ fn line(alloc: Global, name: &str, answer: &str) -> Result<String, Memory> {
     Ok(format!(in alloc; "{name}: {answer}")?)
 }
 
+// The line of a call that can fail.
+fn line_of(
+    alloc: Global,
+    name: &str,
+    answer: Result<&'static str, Memory>,
+) -> Result<String, Memory> {
+    line(alloc, name, answer?)
+}
+
+// The line of a call with a number that can fail.
+fn numbered_line(
+    alloc: Global,
+    name: &str,
+    number: u64,
+    answer: Result<&'static str, Memory>,
+) -> Result<String, Memory> {
+    let answer = answer?;
+    Ok(format!(in alloc; "{name} {number}: {answer}")?)
+}
+
+fn in_flight<J: Job>(alloc: Global, run: &Traversal<J, MemorySink>) -> Result<String, Memory> {
+    let number = run.in_flight();
+    Ok(format!(in alloc; "in_flight: {number}")?)
+}
+
 fn halt<J: Job>(run: &mut Traversal<J, MemorySink>) -> &'static str {
     run.halt();
     MADE
@@ -292,23 +317,20 @@ pub(crate) fn made<J: Job>(
         Call::Take => take(alloc, run),
         Call::IsOut(number, text) => is_out(alloc, run, number, text),
         Call::FirstOut => first_out(alloc, run),
-        Call::InFlight => {
-            let number = run.in_flight();
-            Ok(format!(in alloc; "in_flight: {number}")?)
-        }
+        Call::InFlight => in_flight(alloc, run),
         Call::GiveBack(number, text) => {
-            let answer = of_link(alloc, run, number, text, None)?;
-            Ok(format!(in alloc; "give_back {number}: {answer}")?)
+            let answer = of_link(alloc, run, number, text, None);
+            numbered_line(alloc, "give_back", number, answer)
         }
         Call::Settle(number, text, what) => {
-            let answer = of_link(alloc, run, number, text, Some(what))?;
-            Ok(format!(in alloc; "settle {number}: {answer}")?)
+            let answer = of_link(alloc, run, number, text, Some(what));
+            numbered_line(alloc, "settle", number, answer)
         }
-        Call::Draw => line(alloc, "draw", draw(run)?),
-        Call::Write => line(alloc, "write", write(run)?),
+        Call::Draw => line_of(alloc, "draw", draw(run)),
+        Call::Write => line_of(alloc, "write", write(run)),
         Call::Halt => line(alloc, "halt", halt(run)),
         Call::Halted => line(alloc, "halted", halt_text(run.halted())),
-        Call::Close => line(alloc, "close", close(run)?),
+        Call::Close => line_of(alloc, "close", close(run)),
         Call::IsClosed => line(alloc, "is_closed", answer(run.is_closed())),
     }
 }

@@ -254,6 +254,18 @@ fn end_text(alloc: Global, end: &Option<Finished<MemorySink>>) -> Result<String,
     Ok(format!(in alloc; "finish: halted {halted}\n{record}{out}")?)
 }
 
+// The calls and the end, under a name.
+fn ended_text(
+    alloc: Global,
+    name: &str,
+    lines: Result<String, Memory>,
+    end: &Option<Finished<MemorySink>>,
+) -> Result<String, Memory> {
+    let lines = lines?;
+    let end = end_text(alloc, end)?;
+    Ok(format!(in alloc; "{name}:\n{lines}{end}")?)
+}
+
 // How the calls went on a new traversal, and what it ends with. It gives up nothing while the
 // traversal is open.
 fn run_calls<J: Job>(
@@ -295,9 +307,7 @@ fn shown(
     let seeds = webs::links(alloc, seeds)?;
     let out = MemorySink::new(alloc, room);
     let (lines, end) = run_calls::<Brand>(alloc, way, calls, query, seeds, out);
-    let lines = lines?;
-    let end = end_text(alloc, &end)?;
-    Ok(format!(in alloc; "{name}:\n{lines}{end}")?)
+    ended_text(alloc, name, lines, &end)
 }
 
 /// One document, by its calls one by one.

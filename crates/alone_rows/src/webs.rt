@@ -2,7 +2,7 @@
 ghost use Rattle.std.specs.Prelude.{IfOk, OnOk};
 ghost use Rattle.link_uri.specs.Links.{AreLinks};
 
-use algebra_core::{Algebra, Query};
+use algebra_core::{Algebra, Key, Query};
 use link_uri::{Heard, Link, Reply, link_of};
 use rdf_terms::{ByteBuf, Memory, Seq, Term, TextBuf};
 use reach_terms::Web;
@@ -42,8 +42,9 @@ end
 ";
 
 fn entry_of(entry: &(TextBuf, Reply)) -> Result<(TextBuf, Heard), Memory> {
-    let (text, reply) = entry;
-    Ok((text.copy()?, Heard::Reply(reply.copy()?)))
+    let text = entry.0.copy()?;
+    let reply = entry.1.copy()?;
+    Ok((text, Heard::Reply(reply)))
 }
 
 // What is answered for every link that the site lacks.
@@ -108,25 +109,54 @@ pub(crate) fn links(alloc: Global, texts: &[&str]) -> Result<Vec<Link>, Memory>
     Ok(links)
 }
 
-/// `SELECT ?n WHERE { ?s <http://v.test/name> ?n }`
-pub(crate) fn names(alloc: Global) -> Result<Query, Memory> {
+fn name(alloc: Global, names: &mut Seq<TextBuf>, name: &str) -> Result<(), Memory> {
+    let name = TextBuf::from_str(alloc, name)?;
+    names.push(name)
+}
+
+fn variables(alloc: Global) -> Result<Seq<TextBuf>, Memory> {
     let mut names = Seq::new(alloc);
-    names.push(TextBuf::from_str(alloc, "s")?)?;
-    names.push(TextBuf::from_str(alloc, "n")?)?;
+    name(alloc, &mut names, "s")?;
+    name(alloc, &mut names, "n")?;
+    Ok(names)
+}
+
+fn selected(alloc: Global) -> Result<Seq<u16>, Memory> {
     let mut select = Seq::new(alloc);
     select.push(1)?;
-    let mut patterns = Seq::new(alloc);
-    patterns.push(TriplePattern {
+    Ok(select)
+}
+
+fn pattern(alloc: Global) -> Result<TriplePattern, Memory> {
+    let predicate = TextBuf::from_str(alloc, "http://v.test/name")?;
+    Ok(TriplePattern {
         s: Spot::Var(0),
-        p: Spot::Term(Term::Iri(TextBuf::from_str(alloc, "http://v.test/name")?)),
+        p: Spot::Term(Term::Iri(predicate)),
         o: Spot::Var(1),
-    })?;
-    Ok(Query {
+    })
+}
+
+fn body(alloc: Global) -> Result<Algebra, Memory> {
+    let mut patterns = Seq::new(alloc);
+    patterns.push(pattern(alloc)?)?;
+    Ok(Algebra::Bgp(patterns))
+}
+
+fn query(names: Seq<TextBuf>, select: Seq<u16>, body: Algebra, order: Seq<Key>) -> Query {
+    Query {
         names,
         width: 2,
         select,
         distinct: false,
-        body: Algebra::Bgp(patterns),
-        order: Seq::new(alloc),
-    })
+        body,
+        order,
+    }
+}
+
+/// `SELECT ?n WHERE { ?s <http://v.test/name> ?n }`
+pub(crate) fn names(alloc: Global) -> Result<Query, Memory> {
+    let body = body(alloc)?;
+    let names = variables(alloc)?;
+    let select = selected(alloc)?;
+    Ok(query(names, select, body, Seq::new(alloc)))
 }

@@ -1,7 +1,7 @@
 use Rattle.std.specs.Prelude.{Some}
 use Rattle.reach_criteria.specs.declared.criterion.Criterion.TheVariants as criterion
 use Rattle.web_port.specs.MemoryWeb.{fetch_of}
-use Rattle.alone_rows.proofs.runs.shown_run.Given as goal
+use Rattle.alone_rows.proofs.runs.shown_query.Given as goal
 
 abbrev pub ghosts-run_named : goal.ghosts-run_named
 ghosts-run_named a = record {
