@@ -12,7 +12,7 @@ use Rattle.text_rules.proofs.Longest.{kind_in}
 use Rattle.text_rules.proofs.Walls.{scan_step, scan_end, lost_stuck}
 use Rattle.sparql_lexer.specs.declared.state.State.{State}
 use Rattle.sparql_lexer.specs.declared.state.State.TheVariants as at
-use Rattle.sparql_lexer.specs.State.{when, digit_step, stepped, kind_of, is_waiting, begin, mark_step, less_step, number_step, word_step, prefix_step, prefix_dot_step, first_local_step, local_step, label_step, tag_step, iri_step, line_step, long_step, quote_step, slash_step, escape_step}
+use Rattle.sparql_lexer.specs.State.{when, digit_step, stepped, kind_of, is_waiting, begin, mark_step, less_step, number_step, word_step, prefix_step, prefix_dot_step, first_local_step, local_step, label_step, tag_step, iri_step, line_step, long_step, slash_step, escape_step}
 
 -- the state of an automaton that has only waited for a colon, where one in this state may still find one
 abbrev pub shade : State → Option State
@@ -42,7 +42,7 @@ digit_shade more done fine (Some v) zero n m d = last_shade done (fine (with_dig
 digit_shade more done fine (Some v) (suc left) n m d = m left (with_digit n v)
 
 carried : (s : State) (x : Class) → Carried (shade s) x (shade_in (stepped s x))
-unfolding begin mark_step less_step number_step word_step prefix_step prefix_dot_step first_local_step local_step label_step tag_step iri_step line_step long_step quote_step slash_step escape_step
+unfolding begin mark_step less_step number_step word_step prefix_step prefix_dot_step first_local_step local_step label_step tag_step iri_step line_step long_step slash_step escape_step
 carried (at.IriNumber left n) x = digit_shade at.IriNumber at.Iri is_iri_code (hex_value x) left n (λ left n. refl) refl
 carried (at.LineNumber q left n) x = digit_shade (at.LineNumber q) (at.Line q) is_scalar (hex_value x) left n (λ left n. refl) refl
 carried (at.LongNumber q left n) x = digit_shade (at.LongNumber q) (at.Long q) is_scalar (hex_value x) left n (λ left n. refl) refl
@@ -54,8 +54,6 @@ carried (at.LineSlash quotes.Double) (classes.Digit v) = refl
 carried (at.Long quotes.Double) (classes.Digit v) = refl
 carried (at.LongOne quotes.Double) (classes.Digit v) = refl
 carried (at.LongTwo quotes.Double) (classes.Digit v) = refl
-carried (at.LongThree quotes.Double) (classes.Digit v) = refl
-carried (at.LongFour quotes.Double) (classes.Digit v) = refl
 carried (at.LongSlash quotes.Double) (classes.Digit v) = refl
 carried at.Start x = refl
 carried s (classes.Digit v) = refl
@@ -78,7 +76,7 @@ shade_unfinished s a e = sym (ap (kind_in stepped kind_of) e) ∙ unfinished s
 
 -- no token has an ill-formed byte
 pub no_ill : (s : State) → stepped s classes.Ill ≡ None
-unfolding begin mark_step less_step number_step word_step prefix_step prefix_dot_step first_local_step local_step label_step tag_step iri_step line_step long_step quote_step slash_step escape_step
+unfolding begin mark_step less_step number_step word_step prefix_step prefix_dot_step first_local_step local_step label_step tag_step iri_step line_step long_step slash_step escape_step
 no_ill (at.FirstQuote quotes.Double) = refl
 no_ill (at.SecondQuote quotes.Double) = refl
 no_ill (at.Line quotes.Double) = refl
@@ -86,14 +84,12 @@ no_ill (at.LineSlash quotes.Double) = refl
 no_ill (at.Long quotes.Double) = refl
 no_ill (at.LongOne quotes.Double) = refl
 no_ill (at.LongTwo quotes.Double) = refl
-no_ill (at.LongThree quotes.Double) = refl
-no_ill (at.LongFour quotes.Double) = refl
 no_ill (at.LongSlash quotes.Double) = refl
 no_ill s = refl
 
 -- a dot behind a prefix leaves no more than the prefix did
 dot_alike : (x : Class) (t : State) → stepped at.PrefixDot x ≡ Some t → stepped at.Prefix x ≡ Some t
-unfolding begin mark_step less_step number_step word_step prefix_step prefix_dot_step first_local_step local_step label_step tag_step iri_step line_step long_step quote_step slash_step escape_step
+unfolding begin mark_step less_step number_step word_step prefix_step prefix_dot_step first_local_step local_step label_step tag_step iri_step line_step long_step slash_step escape_step
 dot_alike classes.Colon t e = absurd cc
 dot_alike x t e = e
 

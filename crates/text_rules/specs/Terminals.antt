@@ -81,10 +81,13 @@ line_rest quote = Then (Many (Either (One (is_line_text quote)) string_escape)) 
 abbrev pub few_quotes : Quote → Rule
 few_quotes quote = maybe (Then (One (is_quote quote)) (maybe (One (is_quote quote))))
 
--- behind its first three quotes, a long string: up to two quotes together, also at its end, and then three
+-- three quotes
+abbrev pub three_quotes : Quote → Rule
+three_quotes quote = Then (One (is_quote quote)) (Then (One (is_quote quote)) (One (is_quote quote)))
+
+-- behind its first three quotes, a long string: one or two quotes stand before another character alone, and the first three together end it
 abbrev pub long_rest : Quote → Rule
-long_rest quote = Then (Many (Then (few_quotes quote) (Either (One (is_text quote)) string_escape)))
-    (Then (few_quotes quote) (Then (One (is_quote quote)) (Then (One (is_quote quote)) (One (is_quote quote)))))
+long_rest quote = Then (Many (Then (few_quotes quote) (Either (One (is_text quote)) string_escape))) (three_quotes quote)
 
 -- a string in these quotes
 abbrev pub string_in : Quote → Rule

@@ -16,7 +16,7 @@ use Rattle.turtle_lexer.specs.declared.kind.TurtleKind.TheVariants as kinds
 use Rattle.turtle_lexer.specs.declared.state.State.{State}
 use Rattle.turtle_lexer.specs.declared.state.State.TheVariants as at
 use Rattle.turtle_lexer.specs.Rules.{wide_label, ntriples_rule_of}
-use Rattle.turtle_lexer.specs.State.{when, digit_step, stepped, ntriples_stepped, kind_of, begin, caret_step, number_step, word_step, prefix_step, prefix_dot_step, first_local_step, local_step, label_step, tag_step, iri_step, line_step, long_step, quote_step, slash_step, escape_step}
+use Rattle.turtle_lexer.specs.State.{when, digit_step, stepped, ntriples_stepped, kind_of, begin, caret_step, number_step, word_step, prefix_step, prefix_dot_step, first_local_step, local_step, label_step, tag_step, iri_step, line_step, long_step, slash_step, escape_step}
 use Rattle.turtle_lexer.proofs.Residual.{after_all, path, rest, rest_of, is_kind, is_read, derives, ends, kind_is, is_kind_self, all_read}
 use Rattle.turtle_lexer.proofs.Shades.{no_ill, shade, shade_back}
 
@@ -66,7 +66,7 @@ long_wide quotes.Double = refl
 long_wide quotes.Single = refl
 
 derives_wide : (s : State) (x : Class) → after x (wide_rest s) ≡ wide_rest_of (ntriples_stepped s x)
-unfolding begin caret_step number_step word_step prefix_step prefix_dot_step first_local_step local_step label_step tag_step iri_step line_step long_step quote_step slash_step escape_step
+unfolding begin caret_step number_step word_step prefix_step prefix_dot_step first_local_step local_step label_step tag_step iri_step line_step long_step slash_step escape_step
 derives_wide (at.IriNumber left n) x = number_wide at.IriNumber at.Iri is_iri_code (hex_value x) left n (λ left n. refl) refl
 derives_wide (at.LineNumber q left n) x = number_wide (at.LineNumber q) (at.Line q) is_scalar (hex_value x) left n (λ left n. refl) (line_wide q)
 derives_wide (at.LongNumber q left n) x = number_wide (at.LongNumber q) (at.Long q) is_scalar (hex_value x) left n (λ left n. refl) (long_wide q)
@@ -77,8 +77,6 @@ derives_wide (at.LineSlash quotes.Double) (classes.Digit v) = refl
 derives_wide (at.Long quotes.Double) (classes.Digit v) = refl
 derives_wide (at.LongOne quotes.Double) (classes.Digit v) = refl
 derives_wide (at.LongTwo quotes.Double) (classes.Digit v) = refl
-derives_wide (at.LongThree quotes.Double) (classes.Digit v) = refl
-derives_wide (at.LongFour quotes.Double) (classes.Digit v) = refl
 derives_wide (at.LongSlash quotes.Double) (classes.Digit v) = refl
 derives_wide at.Start (classes.Digit v) = refl
 derives_wide at.Start x = refl
@@ -94,8 +92,6 @@ wide_ends (at.LineSlash quotes.Double) = refl
 wide_ends (at.Long quotes.Double) = refl
 wide_ends (at.LongOne quotes.Double) = refl
 wide_ends (at.LongTwo quotes.Double) = refl
-wide_ends (at.LongThree quotes.Double) = refl
-wide_ends (at.LongFour quotes.Double) = refl
 wide_ends (at.LongSlash quotes.Double) = refl
 wide_ends s = refl
 

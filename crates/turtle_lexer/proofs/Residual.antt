@@ -6,14 +6,14 @@ use Rattle.text_rules.specs.declared.groups.Quote.{Quote}
 use Rattle.text_rules.specs.declared.groups.Quote.TheVariants as quotes
 use Rattle.text_rules.specs.Groups.{hex_value, is_iri, is_greater, is_line_text, is_text, is_quote}
 use Rattle.text_rules.specs.Rules.{Rule, Never, Nothing, One, Then, Either, Many, Number, number_after, both, with_digit, may_end, after, allows}
-use Rattle.text_rules.specs.Terminals.{iri_escape, string_escape, is_iri_code, is_scalar, few_quotes}
+use Rattle.text_rules.specs.Terminals.{iri_escape, string_escape, is_iri_code, is_scalar, few_quotes, three_quotes}
 use Rattle.text_rules.proofs.Longest.{run, kind_in, Decides}
 use Rattle.turtle_lexer.specs.declared.kind.TurtleKind.{TurtleKind}
 use Rattle.turtle_lexer.specs.declared.kind.TurtleKind.TheVariants as kinds
 use Rattle.turtle_lexer.specs.declared.state.State.{State}
 use Rattle.turtle_lexer.specs.declared.state.State.TheVariants as at
 use Rattle.turtle_lexer.specs.Rules.{rule_of}
-use Rattle.turtle_lexer.specs.State.{when, digit_step, stepped, kind_of, begin, caret_step, number_step, word_step, prefix_step, prefix_dot_step, first_local_step, local_step, label_step, tag_step, iri_step, line_step, long_step, quote_step, slash_step, escape_step}
+use Rattle.turtle_lexer.specs.State.{when, digit_step, stepped, kind_of, begin, caret_step, number_step, word_step, prefix_step, prefix_dot_step, first_local_step, local_step, label_step, tag_step, iri_step, line_step, long_step, slash_step, escape_step}
 
 -- the class of a quote
 abbrev mark_of : Quote → Class
@@ -64,8 +64,6 @@ path (at.LineSlash q) = mark_of q ∷ classes.Backslash ∷ []
 path (at.Long q) = mark_of q ∷ mark_of q ∷ mark_of q ∷ []
 path (at.LongOne q) = mark_of q ∷ mark_of q ∷ mark_of q ∷ mark_of q ∷ []
 path (at.LongTwo q) = mark_of q ∷ mark_of q ∷ mark_of q ∷ mark_of q ∷ mark_of q ∷ []
-path (at.LongThree q) = mark_of q ∷ mark_of q ∷ mark_of q ∷ mark_of q ∷ mark_of q ∷ mark_of q ∷ []
-path (at.LongFour q) = mark_of q ∷ mark_of q ∷ mark_of q ∷ mark_of q ∷ mark_of q ∷ mark_of q ∷ mark_of q ∷ []
 path (at.LongSlash q) = mark_of q ∷ mark_of q ∷ mark_of q ∷ classes.Backslash ∷ []
 path at.QuotedDone = classes.Quote ∷ classes.Letter ∷ classes.Quote ∷ []
 path _ = []
@@ -86,8 +84,7 @@ line_number q r k = Never
 
 abbrev long_number : Quote → Rule → TurtleKind → Rule
 long_number q r kinds.Quoted =
-    both (both r (Many (Then (few_quotes q) (Either (One (is_text q)) string_escape))))
-    (Then (few_quotes q) (Then (One (is_quote q)) (Then (One (is_quote q)) (One (is_quote q)))))
+    both (both r (Many (Then (few_quotes q) (Either (One (is_text q)) string_escape)))) (three_quotes q)
 long_number q r k = Never
 
 -- what a kind still wants in a state
@@ -155,7 +152,7 @@ long_after q k x left n = refl
 -- ---- all states
 
 derives_IriRef : (s : State) (x : Class) → after x (rest s kinds.IriRef) ≡ rest_of (stepped s x) kinds.IriRef
-unfolding begin caret_step number_step word_step prefix_step prefix_dot_step first_local_step local_step label_step tag_step iri_step line_step long_step quote_step slash_step escape_step
+unfolding begin caret_step number_step word_step prefix_step prefix_dot_step first_local_step local_step label_step tag_step iri_step line_step long_step slash_step escape_step
 derives_IriRef (at.IriNumber left n) x = iri_after kinds.IriRef x left n ∙ digit_derives (λ r. iri_number r kinds.IriRef) at.Iri at.IriNumber is_iri_code kinds.IriRef (iri_never kinds.IriRef) (iri_nothing kinds.IriRef) (λ left n. refl) (hex_value x) left n
 derives_IriRef (at.LineNumber q left n) x = line_after q kinds.IriRef x left n ∙ digit_derives (λ r. line_number q r kinds.IriRef) (at.Line q) (at.LineNumber q) is_scalar kinds.IriRef (line_never q kinds.IriRef) (line_nothing q kinds.IriRef) (λ left n. refl) (hex_value x) left n
 derives_IriRef (at.LongNumber q left n) x = long_after q kinds.IriRef x left n ∙ digit_derives (λ r. long_number q r kinds.IriRef) (at.Long q) (at.LongNumber q) is_scalar kinds.IriRef (long_never q kinds.IriRef) (long_nothing q kinds.IriRef) (λ left n. refl) (hex_value x) left n
@@ -166,8 +163,6 @@ derives_IriRef (at.LineSlash quotes.Double) (classes.Digit v) = refl
 derives_IriRef (at.Long quotes.Double) (classes.Digit v) = refl
 derives_IriRef (at.LongOne quotes.Double) (classes.Digit v) = refl
 derives_IriRef (at.LongTwo quotes.Double) (classes.Digit v) = refl
-derives_IriRef (at.LongThree quotes.Double) (classes.Digit v) = refl
-derives_IriRef (at.LongFour quotes.Double) (classes.Digit v) = refl
 derives_IriRef (at.LongSlash quotes.Double) (classes.Digit v) = refl
 derives_IriRef at.Start (classes.Digit v) = refl
 derives_IriRef at.Start x = refl
@@ -175,7 +170,7 @@ derives_IriRef s (classes.Digit v) = refl
 derives_IriRef s x = refl
 
 derives_Name : (s : State) (x : Class) → after x (rest s kinds.Name) ≡ rest_of (stepped s x) kinds.Name
-unfolding begin caret_step number_step word_step prefix_step prefix_dot_step first_local_step local_step label_step tag_step iri_step line_step long_step quote_step slash_step escape_step
+unfolding begin caret_step number_step word_step prefix_step prefix_dot_step first_local_step local_step label_step tag_step iri_step line_step long_step slash_step escape_step
 derives_Name (at.IriNumber left n) x = iri_after kinds.Name x left n ∙ digit_derives (λ r. iri_number r kinds.Name) at.Iri at.IriNumber is_iri_code kinds.Name (iri_never kinds.Name) (iri_nothing kinds.Name) (λ left n. refl) (hex_value x) left n
 derives_Name (at.LineNumber q left n) x = line_after q kinds.Name x left n ∙ digit_derives (λ r. line_number q r kinds.Name) (at.Line q) (at.LineNumber q) is_scalar kinds.Name (line_never q kinds.Name) (line_nothing q kinds.Name) (λ left n. refl) (hex_value x) left n
 derives_Name (at.LongNumber q left n) x = long_after q kinds.Name x left n ∙ digit_derives (λ r. long_number q r kinds.Name) (at.Long q) (at.LongNumber q) is_scalar kinds.Name (long_never q kinds.Name) (long_nothing q kinds.Name) (λ left n. refl) (hex_value x) left n
@@ -186,8 +181,6 @@ derives_Name (at.LineSlash quotes.Double) (classes.Digit v) = refl
 derives_Name (at.Long quotes.Double) (classes.Digit v) = refl
 derives_Name (at.LongOne quotes.Double) (classes.Digit v) = refl
 derives_Name (at.LongTwo quotes.Double) (classes.Digit v) = refl
-derives_Name (at.LongThree quotes.Double) (classes.Digit v) = refl
-derives_Name (at.LongFour quotes.Double) (classes.Digit v) = refl
 derives_Name (at.LongSlash quotes.Double) (classes.Digit v) = refl
 derives_Name at.Start (classes.Digit v) = refl
 derives_Name at.Start x = refl
@@ -195,7 +188,7 @@ derives_Name s (classes.Digit v) = refl
 derives_Name s x = refl
 
 derives_BlankLabel : (s : State) (x : Class) → after x (rest s kinds.BlankLabel) ≡ rest_of (stepped s x) kinds.BlankLabel
-unfolding begin caret_step number_step word_step prefix_step prefix_dot_step first_local_step local_step label_step tag_step iri_step line_step long_step quote_step slash_step escape_step
+unfolding begin caret_step number_step word_step prefix_step prefix_dot_step first_local_step local_step label_step tag_step iri_step line_step long_step slash_step escape_step
 derives_BlankLabel (at.IriNumber left n) x = iri_after kinds.BlankLabel x left n ∙ digit_derives (λ r. iri_number r kinds.BlankLabel) at.Iri at.IriNumber is_iri_code kinds.BlankLabel (iri_never kinds.BlankLabel) (iri_nothing kinds.BlankLabel) (λ left n. refl) (hex_value x) left n
 derives_BlankLabel (at.LineNumber q left n) x = line_after q kinds.BlankLabel x left n ∙ digit_derives (λ r. line_number q r kinds.BlankLabel) (at.Line q) (at.LineNumber q) is_scalar kinds.BlankLabel (line_never q kinds.BlankLabel) (line_nothing q kinds.BlankLabel) (λ left n. refl) (hex_value x) left n
 derives_BlankLabel (at.LongNumber q left n) x = long_after q kinds.BlankLabel x left n ∙ digit_derives (λ r. long_number q r kinds.BlankLabel) (at.Long q) (at.LongNumber q) is_scalar kinds.BlankLabel (long_never q kinds.BlankLabel) (long_nothing q kinds.BlankLabel) (λ left n. refl) (hex_value x) left n
@@ -206,8 +199,6 @@ derives_BlankLabel (at.LineSlash quotes.Double) (classes.Digit v) = refl
 derives_BlankLabel (at.Long quotes.Double) (classes.Digit v) = refl
 derives_BlankLabel (at.LongOne quotes.Double) (classes.Digit v) = refl
 derives_BlankLabel (at.LongTwo quotes.Double) (classes.Digit v) = refl
-derives_BlankLabel (at.LongThree quotes.Double) (classes.Digit v) = refl
-derives_BlankLabel (at.LongFour quotes.Double) (classes.Digit v) = refl
 derives_BlankLabel (at.LongSlash quotes.Double) (classes.Digit v) = refl
 derives_BlankLabel at.Start (classes.Digit v) = refl
 derives_BlankLabel at.Start x = refl
@@ -215,7 +206,7 @@ derives_BlankLabel s (classes.Digit v) = refl
 derives_BlankLabel s x = refl
 
 derives_At : (s : State) (x : Class) → after x (rest s kinds.At) ≡ rest_of (stepped s x) kinds.At
-unfolding begin caret_step number_step word_step prefix_step prefix_dot_step first_local_step local_step label_step tag_step iri_step line_step long_step quote_step slash_step escape_step
+unfolding begin caret_step number_step word_step prefix_step prefix_dot_step first_local_step local_step label_step tag_step iri_step line_step long_step slash_step escape_step
 derives_At (at.IriNumber left n) x = iri_after kinds.At x left n ∙ digit_derives (λ r. iri_number r kinds.At) at.Iri at.IriNumber is_iri_code kinds.At (iri_never kinds.At) (iri_nothing kinds.At) (λ left n. refl) (hex_value x) left n
 derives_At (at.LineNumber q left n) x = line_after q kinds.At x left n ∙ digit_derives (λ r. line_number q r kinds.At) (at.Line q) (at.LineNumber q) is_scalar kinds.At (line_never q kinds.At) (line_nothing q kinds.At) (λ left n. refl) (hex_value x) left n
 derives_At (at.LongNumber q left n) x = long_after q kinds.At x left n ∙ digit_derives (λ r. long_number q r kinds.At) (at.Long q) (at.LongNumber q) is_scalar kinds.At (long_never q kinds.At) (long_nothing q kinds.At) (λ left n. refl) (hex_value x) left n
@@ -226,8 +217,6 @@ derives_At (at.LineSlash quotes.Double) (classes.Digit v) = refl
 derives_At (at.Long quotes.Double) (classes.Digit v) = refl
 derives_At (at.LongOne quotes.Double) (classes.Digit v) = refl
 derives_At (at.LongTwo quotes.Double) (classes.Digit v) = refl
-derives_At (at.LongThree quotes.Double) (classes.Digit v) = refl
-derives_At (at.LongFour quotes.Double) (classes.Digit v) = refl
 derives_At (at.LongSlash quotes.Double) (classes.Digit v) = refl
 derives_At at.Start (classes.Digit v) = refl
 derives_At at.Start x = refl
@@ -235,7 +224,7 @@ derives_At s (classes.Digit v) = refl
 derives_At s x = refl
 
 derives_Quoted : (s : State) (x : Class) → after x (rest s kinds.Quoted) ≡ rest_of (stepped s x) kinds.Quoted
-unfolding begin caret_step number_step word_step prefix_step prefix_dot_step first_local_step local_step label_step tag_step iri_step line_step long_step quote_step slash_step escape_step
+unfolding begin caret_step number_step word_step prefix_step prefix_dot_step first_local_step local_step label_step tag_step iri_step line_step long_step slash_step escape_step
 derives_Quoted (at.IriNumber left n) x = iri_after kinds.Quoted x left n ∙ digit_derives (λ r. iri_number r kinds.Quoted) at.Iri at.IriNumber is_iri_code kinds.Quoted (iri_never kinds.Quoted) (iri_nothing kinds.Quoted) (λ left n. refl) (hex_value x) left n
 derives_Quoted (at.LineNumber q left n) x = line_after q kinds.Quoted x left n ∙ digit_derives (λ r. line_number q r kinds.Quoted) (at.Line q) (at.LineNumber q) is_scalar kinds.Quoted (line_never q kinds.Quoted) (line_nothing q kinds.Quoted) (λ left n. refl) (hex_value x) left n
 derives_Quoted (at.LongNumber q left n) x = long_after q kinds.Quoted x left n ∙ digit_derives (λ r. long_number q r kinds.Quoted) (at.Long q) (at.LongNumber q) is_scalar kinds.Quoted (long_never q kinds.Quoted) (long_nothing q kinds.Quoted) (λ left n. refl) (hex_value x) left n
@@ -246,8 +235,6 @@ derives_Quoted (at.LineSlash quotes.Double) (classes.Digit v) = refl
 derives_Quoted (at.Long quotes.Double) (classes.Digit v) = refl
 derives_Quoted (at.LongOne quotes.Double) (classes.Digit v) = refl
 derives_Quoted (at.LongTwo quotes.Double) (classes.Digit v) = refl
-derives_Quoted (at.LongThree quotes.Double) (classes.Digit v) = refl
-derives_Quoted (at.LongFour quotes.Double) (classes.Digit v) = refl
 derives_Quoted (at.LongSlash quotes.Double) (classes.Digit v) = refl
 derives_Quoted at.Start (classes.Digit v) = refl
 derives_Quoted at.Start x = refl
@@ -255,7 +242,7 @@ derives_Quoted s (classes.Digit v) = refl
 derives_Quoted s x = refl
 
 derives_Integer : (s : State) (x : Class) → after x (rest s kinds.Integer) ≡ rest_of (stepped s x) kinds.Integer
-unfolding begin caret_step number_step word_step prefix_step prefix_dot_step first_local_step local_step label_step tag_step iri_step line_step long_step quote_step slash_step escape_step
+unfolding begin caret_step number_step word_step prefix_step prefix_dot_step first_local_step local_step label_step tag_step iri_step line_step long_step slash_step escape_step
 derives_Integer (at.IriNumber left n) x = iri_after kinds.Integer x left n ∙ digit_derives (λ r. iri_number r kinds.Integer) at.Iri at.IriNumber is_iri_code kinds.Integer (iri_never kinds.Integer) (iri_nothing kinds.Integer) (λ left n. refl) (hex_value x) left n
 derives_Integer (at.LineNumber q left n) x = line_after q kinds.Integer x left n ∙ digit_derives (λ r. line_number q r kinds.Integer) (at.Line q) (at.LineNumber q) is_scalar kinds.Integer (line_never q kinds.Integer) (line_nothing q kinds.Integer) (λ left n. refl) (hex_value x) left n
 derives_Integer (at.LongNumber q left n) x = long_after q kinds.Integer x left n ∙ digit_derives (λ r. long_number q r kinds.Integer) (at.Long q) (at.LongNumber q) is_scalar kinds.Integer (long_never q kinds.Integer) (long_nothing q kinds.Integer) (λ left n. refl) (hex_value x) left n
@@ -266,8 +253,6 @@ derives_Integer (at.LineSlash quotes.Double) (classes.Digit v) = refl
 derives_Integer (at.Long quotes.Double) (classes.Digit v) = refl
 derives_Integer (at.LongOne quotes.Double) (classes.Digit v) = refl
 derives_Integer (at.LongTwo quotes.Double) (classes.Digit v) = refl
-derives_Integer (at.LongThree quotes.Double) (classes.Digit v) = refl
-derives_Integer (at.LongFour quotes.Double) (classes.Digit v) = refl
 derives_Integer (at.LongSlash quotes.Double) (classes.Digit v) = refl
 derives_Integer at.Start (classes.Digit v) = refl
 derives_Integer at.Start x = refl
@@ -275,7 +260,7 @@ derives_Integer s (classes.Digit v) = refl
 derives_Integer s x = refl
 
 derives_Decimal : (s : State) (x : Class) → after x (rest s kinds.Decimal) ≡ rest_of (stepped s x) kinds.Decimal
-unfolding begin caret_step number_step word_step prefix_step prefix_dot_step first_local_step local_step label_step tag_step iri_step line_step long_step quote_step slash_step escape_step
+unfolding begin caret_step number_step word_step prefix_step prefix_dot_step first_local_step local_step label_step tag_step iri_step line_step long_step slash_step escape_step
 derives_Decimal (at.IriNumber left n) x = iri_after kinds.Decimal x left n ∙ digit_derives (λ r. iri_number r kinds.Decimal) at.Iri at.IriNumber is_iri_code kinds.Decimal (iri_never kinds.Decimal) (iri_nothing kinds.Decimal) (λ left n. refl) (hex_value x) left n
 derives_Decimal (at.LineNumber q left n) x = line_after q kinds.Decimal x left n ∙ digit_derives (λ r. line_number q r kinds.Decimal) (at.Line q) (at.LineNumber q) is_scalar kinds.Decimal (line_never q kinds.Decimal) (line_nothing q kinds.Decimal) (λ left n. refl) (hex_value x) left n
 derives_Decimal (at.LongNumber q left n) x = long_after q kinds.Decimal x left n ∙ digit_derives (λ r. long_number q r kinds.Decimal) (at.Long q) (at.LongNumber q) is_scalar kinds.Decimal (long_never q kinds.Decimal) (long_nothing q kinds.Decimal) (λ left n. refl) (hex_value x) left n
@@ -286,8 +271,6 @@ derives_Decimal (at.LineSlash quotes.Double) (classes.Digit v) = refl
 derives_Decimal (at.Long quotes.Double) (classes.Digit v) = refl
 derives_Decimal (at.LongOne quotes.Double) (classes.Digit v) = refl
 derives_Decimal (at.LongTwo quotes.Double) (classes.Digit v) = refl
-derives_Decimal (at.LongThree quotes.Double) (classes.Digit v) = refl
-derives_Decimal (at.LongFour quotes.Double) (classes.Digit v) = refl
 derives_Decimal (at.LongSlash quotes.Double) (classes.Digit v) = refl
 derives_Decimal at.Start (classes.Digit v) = refl
 derives_Decimal at.Start x = refl
@@ -295,7 +278,7 @@ derives_Decimal s (classes.Digit v) = refl
 derives_Decimal s x = refl
 
 derives_Double : (s : State) (x : Class) → after x (rest s kinds.Double) ≡ rest_of (stepped s x) kinds.Double
-unfolding begin caret_step number_step word_step prefix_step prefix_dot_step first_local_step local_step label_step tag_step iri_step line_step long_step quote_step slash_step escape_step
+unfolding begin caret_step number_step word_step prefix_step prefix_dot_step first_local_step local_step label_step tag_step iri_step line_step long_step slash_step escape_step
 derives_Double (at.IriNumber left n) x = iri_after kinds.Double x left n ∙ digit_derives (λ r. iri_number r kinds.Double) at.Iri at.IriNumber is_iri_code kinds.Double (iri_never kinds.Double) (iri_nothing kinds.Double) (λ left n. refl) (hex_value x) left n
 derives_Double (at.LineNumber q left n) x = line_after q kinds.Double x left n ∙ digit_derives (λ r. line_number q r kinds.Double) (at.Line q) (at.LineNumber q) is_scalar kinds.Double (line_never q kinds.Double) (line_nothing q kinds.Double) (λ left n. refl) (hex_value x) left n
 derives_Double (at.LongNumber q left n) x = long_after q kinds.Double x left n ∙ digit_derives (λ r. long_number q r kinds.Double) (at.Long q) (at.LongNumber q) is_scalar kinds.Double (long_never q kinds.Double) (long_nothing q kinds.Double) (λ left n. refl) (hex_value x) left n
@@ -306,8 +289,6 @@ derives_Double (at.LineSlash quotes.Double) (classes.Digit v) = refl
 derives_Double (at.Long quotes.Double) (classes.Digit v) = refl
 derives_Double (at.LongOne quotes.Double) (classes.Digit v) = refl
 derives_Double (at.LongTwo quotes.Double) (classes.Digit v) = refl
-derives_Double (at.LongThree quotes.Double) (classes.Digit v) = refl
-derives_Double (at.LongFour quotes.Double) (classes.Digit v) = refl
 derives_Double (at.LongSlash quotes.Double) (classes.Digit v) = refl
 derives_Double at.Start (classes.Digit v) = refl
 derives_Double at.Start x = refl
@@ -315,7 +296,7 @@ derives_Double s (classes.Digit v) = refl
 derives_Double s x = refl
 
 derives_Word : (s : State) (x : Class) → after x (rest s kinds.Word) ≡ rest_of (stepped s x) kinds.Word
-unfolding begin caret_step number_step word_step prefix_step prefix_dot_step first_local_step local_step label_step tag_step iri_step line_step long_step quote_step slash_step escape_step
+unfolding begin caret_step number_step word_step prefix_step prefix_dot_step first_local_step local_step label_step tag_step iri_step line_step long_step slash_step escape_step
 derives_Word (at.IriNumber left n) x = iri_after kinds.Word x left n ∙ digit_derives (λ r. iri_number r kinds.Word) at.Iri at.IriNumber is_iri_code kinds.Word (iri_never kinds.Word) (iri_nothing kinds.Word) (λ left n. refl) (hex_value x) left n
 derives_Word (at.LineNumber q left n) x = line_after q kinds.Word x left n ∙ digit_derives (λ r. line_number q r kinds.Word) (at.Line q) (at.LineNumber q) is_scalar kinds.Word (line_never q kinds.Word) (line_nothing q kinds.Word) (λ left n. refl) (hex_value x) left n
 derives_Word (at.LongNumber q left n) x = long_after q kinds.Word x left n ∙ digit_derives (λ r. long_number q r kinds.Word) (at.Long q) (at.LongNumber q) is_scalar kinds.Word (long_never q kinds.Word) (long_nothing q kinds.Word) (λ left n. refl) (hex_value x) left n
@@ -326,8 +307,6 @@ derives_Word (at.LineSlash quotes.Double) (classes.Digit v) = refl
 derives_Word (at.Long quotes.Double) (classes.Digit v) = refl
 derives_Word (at.LongOne quotes.Double) (classes.Digit v) = refl
 derives_Word (at.LongTwo quotes.Double) (classes.Digit v) = refl
-derives_Word (at.LongThree quotes.Double) (classes.Digit v) = refl
-derives_Word (at.LongFour quotes.Double) (classes.Digit v) = refl
 derives_Word (at.LongSlash quotes.Double) (classes.Digit v) = refl
 derives_Word at.Start (classes.Digit v) = refl
 derives_Word at.Start x = refl
@@ -335,7 +314,7 @@ derives_Word s (classes.Digit v) = refl
 derives_Word s x = refl
 
 derives_Mark : (s : State) (x : Class) → after x (rest s kinds.Mark) ≡ rest_of (stepped s x) kinds.Mark
-unfolding begin caret_step number_step word_step prefix_step prefix_dot_step first_local_step local_step label_step tag_step iri_step line_step long_step quote_step slash_step escape_step
+unfolding begin caret_step number_step word_step prefix_step prefix_dot_step first_local_step local_step label_step tag_step iri_step line_step long_step slash_step escape_step
 derives_Mark (at.IriNumber left n) x = iri_after kinds.Mark x left n ∙ digit_derives (λ r. iri_number r kinds.Mark) at.Iri at.IriNumber is_iri_code kinds.Mark (iri_never kinds.Mark) (iri_nothing kinds.Mark) (λ left n. refl) (hex_value x) left n
 derives_Mark (at.LineNumber q left n) x = line_after q kinds.Mark x left n ∙ digit_derives (λ r. line_number q r kinds.Mark) (at.Line q) (at.LineNumber q) is_scalar kinds.Mark (line_never q kinds.Mark) (line_nothing q kinds.Mark) (λ left n. refl) (hex_value x) left n
 derives_Mark (at.LongNumber q left n) x = long_after q kinds.Mark x left n ∙ digit_derives (λ r. long_number q r kinds.Mark) (at.Long q) (at.LongNumber q) is_scalar kinds.Mark (long_never q kinds.Mark) (long_nothing q kinds.Mark) (λ left n. refl) (hex_value x) left n
@@ -346,8 +325,6 @@ derives_Mark (at.LineSlash quotes.Double) (classes.Digit v) = refl
 derives_Mark (at.Long quotes.Double) (classes.Digit v) = refl
 derives_Mark (at.LongOne quotes.Double) (classes.Digit v) = refl
 derives_Mark (at.LongTwo quotes.Double) (classes.Digit v) = refl
-derives_Mark (at.LongThree quotes.Double) (classes.Digit v) = refl
-derives_Mark (at.LongFour quotes.Double) (classes.Digit v) = refl
 derives_Mark (at.LongSlash quotes.Double) (classes.Digit v) = refl
 derives_Mark at.Start (classes.Digit v) = refl
 derives_Mark at.Start x = refl
@@ -355,7 +332,7 @@ derives_Mark s (classes.Digit v) = refl
 derives_Mark s x = refl
 
 derives_Bad : (s : State) (x : Class) → after x (rest s kinds.Bad) ≡ rest_of (stepped s x) kinds.Bad
-unfolding begin caret_step number_step word_step prefix_step prefix_dot_step first_local_step local_step label_step tag_step iri_step line_step long_step quote_step slash_step escape_step
+unfolding begin caret_step number_step word_step prefix_step prefix_dot_step first_local_step local_step label_step tag_step iri_step line_step long_step slash_step escape_step
 derives_Bad (at.IriNumber left n) x = iri_after kinds.Bad x left n ∙ digit_derives (λ r. iri_number r kinds.Bad) at.Iri at.IriNumber is_iri_code kinds.Bad (iri_never kinds.Bad) (iri_nothing kinds.Bad) (λ left n. refl) (hex_value x) left n
 derives_Bad (at.LineNumber q left n) x = line_after q kinds.Bad x left n ∙ digit_derives (λ r. line_number q r kinds.Bad) (at.Line q) (at.LineNumber q) is_scalar kinds.Bad (line_never q kinds.Bad) (line_nothing q kinds.Bad) (λ left n. refl) (hex_value x) left n
 derives_Bad (at.LongNumber q left n) x = long_after q kinds.Bad x left n ∙ digit_derives (λ r. long_number q r kinds.Bad) (at.Long q) (at.LongNumber q) is_scalar kinds.Bad (long_never q kinds.Bad) (long_nothing q kinds.Bad) (λ left n. refl) (hex_value x) left n
@@ -366,8 +343,6 @@ derives_Bad (at.LineSlash quotes.Double) (classes.Digit v) = refl
 derives_Bad (at.Long quotes.Double) (classes.Digit v) = refl
 derives_Bad (at.LongOne quotes.Double) (classes.Digit v) = refl
 derives_Bad (at.LongTwo quotes.Double) (classes.Digit v) = refl
-derives_Bad (at.LongThree quotes.Double) (classes.Digit v) = refl
-derives_Bad (at.LongFour quotes.Double) (classes.Digit v) = refl
 derives_Bad (at.LongSlash quotes.Double) (classes.Digit v) = refl
 derives_Bad at.Start (classes.Digit v) = refl
 derives_Bad at.Start x = refl
@@ -375,7 +350,7 @@ derives_Bad s (classes.Digit v) = refl
 derives_Bad s x = refl
 
 derives_End : (s : State) (x : Class) → after x (rest s kinds.End) ≡ rest_of (stepped s x) kinds.End
-unfolding begin caret_step number_step word_step prefix_step prefix_dot_step first_local_step local_step label_step tag_step iri_step line_step long_step quote_step slash_step escape_step
+unfolding begin caret_step number_step word_step prefix_step prefix_dot_step first_local_step local_step label_step tag_step iri_step line_step long_step slash_step escape_step
 derives_End (at.IriNumber left n) x = iri_after kinds.End x left n ∙ digit_derives (λ r. iri_number r kinds.End) at.Iri at.IriNumber is_iri_code kinds.End (iri_never kinds.End) (iri_nothing kinds.End) (λ left n. refl) (hex_value x) left n
 derives_End (at.LineNumber q left n) x = line_after q kinds.End x left n ∙ digit_derives (λ r. line_number q r kinds.End) (at.Line q) (at.LineNumber q) is_scalar kinds.End (line_never q kinds.End) (line_nothing q kinds.End) (λ left n. refl) (hex_value x) left n
 derives_End (at.LongNumber q left n) x = long_after q kinds.End x left n ∙ digit_derives (λ r. long_number q r kinds.End) (at.Long q) (at.LongNumber q) is_scalar kinds.End (long_never q kinds.End) (long_nothing q kinds.End) (λ left n. refl) (hex_value x) left n
@@ -386,8 +361,6 @@ derives_End (at.LineSlash quotes.Double) (classes.Digit v) = refl
 derives_End (at.Long quotes.Double) (classes.Digit v) = refl
 derives_End (at.LongOne quotes.Double) (classes.Digit v) = refl
 derives_End (at.LongTwo quotes.Double) (classes.Digit v) = refl
-derives_End (at.LongThree quotes.Double) (classes.Digit v) = refl
-derives_End (at.LongFour quotes.Double) (classes.Digit v) = refl
 derives_End (at.LongSlash quotes.Double) (classes.Digit v) = refl
 derives_End at.Start (classes.Digit v) = refl
 derives_End at.Start x = refl
@@ -444,8 +417,6 @@ ends (at.LineSlash quotes.Double) kinds.IriRef = refl
 ends (at.Long quotes.Double) kinds.IriRef = refl
 ends (at.LongOne quotes.Double) kinds.IriRef = refl
 ends (at.LongTwo quotes.Double) kinds.IriRef = refl
-ends (at.LongThree quotes.Double) kinds.IriRef = refl
-ends (at.LongFour quotes.Double) kinds.IriRef = refl
 ends (at.LongSlash quotes.Double) kinds.IriRef = refl
 ends at.Start k = refl
 ends s kinds.IriRef = refl

@@ -140,9 +140,6 @@ long_text_step quote x = when (group.is_text quote x) (at.Long quote)
 unfoldable pub long_step : State → Quote → Class → Option State
 long_step quoted quote x = if group.is_quote quote x then Some quoted else long_text_step quote x
 
-unfoldable pub quote_step : State → Quote → Class → Option State
-quote_step quoted quote x = when (group.is_quote quote x) quoted
-
 abbrev pub iri_slash_step : Class → Option State
 iri_slash_step classes.LowerU = Some (at.IriNumber 3 0)
 iri_slash_step classes.UpperU = Some (at.IriNumber 7 0)
@@ -223,13 +220,11 @@ stepped (at.IriNumber left n) x = escape_step (at.IriNumber left n) (group.hex_v
 stepped (at.LineNumber quote left n) x = escape_step (at.LineNumber quote left n) (group.hex_value x)
 stepped (at.LongNumber quote left n) x = escape_step (at.LongNumber quote left n) (group.hex_value x)
 stepped (at.FirstQuote quote) x = if group.is_quote quote x then Some (at.SecondQuote quote) else line_step quote x
-stepped (at.SecondQuote quote) x = quote_step (at.Long quote) quote x
+stepped (at.SecondQuote quote) x = when (group.is_quote quote x) (at.Long quote)
 stepped (at.Line quote) x = line_step quote x
 stepped (at.Long quote) x = long_step (at.LongOne quote) quote x
 stepped (at.LongOne quote) x = long_step (at.LongTwo quote) quote x
-stepped (at.LongTwo quote) x = long_step (at.LongThree quote) quote x
-stepped (at.LongThree quote) x = quote_step (at.LongFour quote) quote x
-stepped (at.LongFour quote) x = quote_step at.QuotedDone quote x
+stepped (at.LongTwo quote) x = long_step at.QuotedDone quote x
 stepped _ x = None
 
 -- the same in N-Triples, where a colon goes on with a label
@@ -259,8 +254,6 @@ kind_of at.Tag = Some kinds.At
 kind_of at.TagPart = Some kinds.At
 kind_of at.IriDone = Some kinds.IriRef
 kind_of (at.SecondQuote quote) = Some kinds.Quoted
-kind_of (at.LongThree quote) = Some kinds.Quoted
-kind_of (at.LongFour quote) = Some kinds.Quoted
 kind_of at.QuotedDone = Some kinds.Quoted
 kind_of _ = None
 

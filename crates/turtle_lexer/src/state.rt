@@ -61,11 +61,9 @@ pub enum State {
     LineSlash(Quote),
     LineNumber(Quote, u8, u32),
     Long(Quote),
-    // Quotes inside a long string, which three of them end.
+    // One or two quotes inside a long string, which the third ends.
     LongOne(Quote),
     LongTwo(Quote),
-    LongThree(Quote),
-    LongFour(Quote),
     LongSlash(Quote),
     LongNumber(Quote, u8, u32),
     QuotedDone,
@@ -237,14 +235,6 @@ fn long(quoted: State, quote: Quote, x: Class) -> Option<State>
     }
 }
 
-// Behind the quotes that may end a long string.
-#[tactic(auto, unfolding(crate::specs::State::quote_step))]
-fn one_more(quoted: State, quote: Quote, x: Class) -> Option<State>
-    ensures { result ≡ spec.quote_step quoted quote x }
-{
-    x.is_quote(quote).then_some(quoted)
-}
-
 // Behind the backslash of an escape.
 #[tactic(auto, unfolding(crate::specs::State::slash_step))]
 fn slash(state: State, x: Class) -> Option<State>
@@ -330,13 +320,11 @@ fn step(state: State, x: Class) -> Option<State>
                 line(quote, x)
             }
         }
-        State::SecondQuote(quote) => one_more(State::Long(quote), quote, x),
+        State::SecondQuote(quote) => x.is_quote(quote).then_some(State::Long(quote)),
         State::Line(quote) => line(quote, x),
         State::Long(quote) => long(State::LongOne(quote), quote, x),
         State::LongOne(quote) => long(State::LongTwo(quote), quote, x),
-        State::LongTwo(quote) => long(State::LongThree(quote), quote, x),
-        State::LongThree(quote) => one_more(State::LongFour(quote), quote, x),
-        State::LongFour(quote) => one_more(State::QuotedDone, quote, x),
+        State::LongTwo(quote) => long(State::QuotedDone, quote, x),
         State::MarkDone | State::IriDone | State::QuotedDone => None,
     }
 }
@@ -378,9 +366,7 @@ pub fn kind_of(state: State) -> Option<TurtleKind>
         State::Label => Some(TurtleKind::BlankLabel),
         State::Tag | State::TagPart => Some(TurtleKind::At),
         State::IriDone => Some(TurtleKind::IriRef),
-        State::SecondQuote(_) | State::LongThree(_) | State::LongFour(_) | State::QuotedDone => {
-            Some(TurtleKind::Quoted)
-        }
+        State::SecondQuote(_) | State::QuotedDone => { Some(TurtleKind::Quoted) }
         _ => None,
     }
 }
