@@ -1,6 +1,4 @@
 //! Tests of `row_writer`.
-ghost use Rattle.std.specs.Prelude.{◌≡◌, []};
-
 use json_results::head;
 use outer_ports::MemorySink;
 use rdf_terms::TextBuf;
@@ -15,37 +13,28 @@ fn names(alloc: Global, rt: &impl Abort) -> Vec<TextBuf> {
     Vec::from_array(alloc, [name]).expect(rt, "memory")
 }
 
-fn writer(alloc: Global, rt: &impl Abort) -> RowWriter<MemorySink>
-    ensures { result.rows ≡ [] }
-{
+// The head is written, then nothing waits, and it is closed.
+fn closed(alloc: Global, rt: &impl Abort) -> RowWriter<MemorySink> {
     let names = names(alloc, rt);
     let start = head(alloc, names.as_slice()).expect(rt, "memory");
-    RowWriter::new(alloc, names, start, MemorySink::new(alloc, 1000))
-}
-
-fn writes(alloc: Global, rt: &impl Abort, writer: &mut RowWriter<MemorySink>, step: Written) -> bool
-    ensures { writer.new.rows ≡ writer.old.rows }
-{
-    writer.write(alloc).expect(rt, "memory") == step
-}
-
-// The head, then nothing, and the tail once it is closed.
-fn steps_follow(alloc: Global, rt: &impl Abort, writer: &mut RowWriter<MemorySink>) -> bool
-    requires { writer.old.rows ≡ [] }
-{
-    let begun = !writer.is_clear() && writes(alloc, rt, writer, Written::Wrote);
-    let waits = writes(alloc, rt, writer, Written::Clear);
-    if !writer.is_clear() {
-        return false;
-    }
+    let mut writer = RowWriter::new(alloc, names, start, MemorySink::new(alloc, 1000));
+    assert!(rt; !writer.is_clear());
+    assert!(rt; writer.write(alloc).expect(rt, "memory") == Written::Wrote);
+    assert!(rt; writer.write(alloc).expect(rt, "memory") == Written::Clear);
     writer.close(alloc, Vec::new(alloc)).expect(rt, "memory");
-    begun && waits && writes(alloc, rt, writer, Written::Wrote) && writer.is_clear()
+    writer
+}
+
+// The tail is written, and nothing waits.
+fn ended(alloc: Global, rt: &impl Abort) -> MemorySink {
+    let mut writer = closed(alloc, rt);
+    assert!(rt; writer.write(alloc).expect(rt, "memory") == Written::Wrote);
+    assert!(rt; writer.is_clear());
+    writer.into_sink()
 }
 
 fn text_is_whole(alloc: Global, rt: &impl Abort) -> bool {
-    let mut writer = writer(alloc, rt);
-    let followed = steps_follow(alloc, rt, &mut writer);
-    followed && writer.into_sink().content() == TEXT
+    ended(alloc, rt).content() == TEXT
 }
 
 #[test]
