@@ -1,0 +1,24 @@
+//! Direct calls of the libraries that read texts: the texts of tokens, the two lexers, the two scans
+//! and the readers of documents. It has tests alone, since a library with tests of its own is proved
+//! twice.
+//!
+//! Each public call that can answer want of memory is made at least once with ample memory, and its
+//! answer is compared with one from outside. What a contract says of all arguments is not tried
+//! again here.
+//! Not here: tests of terms and links (`calls_base`).
+#![tactic(auto)]
+
+#[cfg(test)]
+mod documents;
+#[cfg(test)]
+mod query_tokens;
+#[cfg(test)]
+mod scanned_queries;
+#[cfg(test)]
+mod scanned_turtle;
+#[cfg(test)]
+mod texts;
+#[cfg(test)]
+mod turtle;
+#[cfg(test)]
+mod turtle_tokens;
