@@ -1,0 +1,6 @@
+/// The side that a row comes to.
+#[derive(Clone, Copy)]
+pub(crate) enum Fed {
+    Left,
+    Right,
+}
