@@ -1,4 +1,4 @@
-//! Tests of public calls: a growing graph, the algebra, the parts of queries, whole queries, the text
+//! Tests of public calls: a growing graph, joins that grow, the algebra, the parts of queries, whole queries, the text
 //! of results and its writing.
 //!
 //! Each public call of these libraries that can answer want of memory is made here with ample memory,
@@ -11,6 +11,8 @@
 mod evaluations;
 #[cfg(test)]
 mod graphs;
+#[cfg(test)]
+mod joins;
 #[cfg(test)]
 mod parts;
 #[cfg(test)]
