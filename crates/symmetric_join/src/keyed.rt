@@ -1,6 +1,6 @@
-ghost use Rattle.std.specs.Prelude.{◌≡◌, ◌<◌, ◌++◌, ◌∷◌, ◌+◌, [], take, length, flat_map, filter, IsSome, IfOk, OnOk, OnErr};
+ghost use Rattle.std.specs.Prelude.{◌≡◌, ◌<◌, ◌++◌, ◌∷◌, ◌+◌, [], take, length, flat_map, IsSome, IfOk, OnOk, OnErr};
 ghost use Rattle.symmetric_join.specs.Joins.{met};
-ghost use Rattle.symmetric_join.specs.Keys.{Key, Lists, is_bound, key_of as spec_key_of};
+ghost use Rattle.symmetric_join.specs.Keys.{key_of as spec_key_of};
 
 use crate::fed::Fed;
 use crate::meeting::{meet_all, meet_at};

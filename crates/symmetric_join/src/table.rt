@@ -1,8 +1,7 @@
-ghost use Rattle.std.specs.Prelude.{◌≡◌, ◌++◌, ◌∷◌, ◌+◌, [], List, ℕ, Some, None, Option, IfSome, IfNone, IfOk, OnOk, OnErr, if◌then◌else◌, slice_get, length, filter};
-ghost use Rattle.rdf_terms.specs.declared.term.Term.{Term};
+ghost use Rattle.std.specs.Prelude.{◌≡◌, ◌++◌, ◌∷◌, ◌+◌, [], Some, None, IfSome, IfNone, IfOk, OnOk, OnErr, if◌then◌else◌, slice_get, length};
 ghost use Rattle.rows_core.specs.Rows.{cell_or_free};
 ghost use Rattle.symmetric_join.specs.Keys as spec;
-ghost use Rattle.symmetric_join.specs.Keys.{Key, is_bound, with_term, same_key, places_at, merged_places};
+ghost use Rattle.symmetric_join.specs.Keys.{Key, with_term, same_key, places_at, merged_places};
 
 use indexmap::IndexMap;
 use rdf_terms::{Memory, Seq, Term};
