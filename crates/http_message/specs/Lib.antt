@@ -1,0 +1,14 @@
+pub mod Request
+pub mod Heads
+pub mod Lengths
+pub mod Facts
+pub mod Judged
+pub mod Lines
+pub mod Chunks
+pub mod Body
+pub mod Reading
+pub mod Spelled
+pub mod LineStates
+pub mod State
+pub mod Ended
+pub mod Held
