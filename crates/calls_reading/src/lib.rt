@@ -11,6 +11,8 @@
 #[cfg(test)]
 mod documents;
 #[cfg(test)]
+mod messages;
+#[cfg(test)]
 mod query_tokens;
 #[cfg(test)]
 mod scanned_queries;
