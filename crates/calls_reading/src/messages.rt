@@ -93,6 +93,72 @@ fn reads_up_to_the_end_and_nothing_behind_an_unwanted_head(rt: HostRuntime) {
     assert!(rt; is_read(alloc, &rt, CODED, b""));
 }
 
+const LISTED: &[u8] =
+    b"HTTP/1.1 200 OK\r\nContent-Type: text/turtle\r\nContent-Length: 5, 5\r\n\r\n<a> <b>";
+
+const TRAILED: &[u8] =
+    b"HTTP/1.1 200 OK\r\nContent-Type: text/turtle\r\nTransfer-Encoding: chunked\r\n\r\n3 ;x=y\r\n<a>\r\n0\r\nX: y\n\n";
+
+#[test]
+fn reads_a_list_of_equal_lengths_and_ignores_trailers(rt: HostRuntime) {
+    let alloc = rt.alloc();
+    assert!(rt; is_read(alloc, &rt, LISTED, b"<a> <"));
+    assert!(rt; is_read(alloc, &rt, TRAILED, b"<a>"));
+}
+
+const MOVED: &[u8] = b"HTTP/1.1 303 See Other\r\nLocation:  /x \r\nLocation: /y\r\n\r\n";
+
+fn has_location(heard: &Option<Heard>, location: &[u8]) -> bool {
+    match heard {
+        Some(Heard::Reply(reply)) => match &reply.location {
+            Some(found) => reply.status == 303 && found.as_slice() == location,
+            None => false,
+        },
+        _ => false,
+    }
+}
+
+fn is_moved(alloc: Global, rt: &impl Abort) -> bool {
+    let heard = heard(alloc, rt, 1000, &[MOVED]);
+    has_location(&heard, b"/x")
+}
+
+#[test]
+fn takes_the_first_location(rt: HostRuntime) {
+    assert!(rt; is_moved(rt.alloc(), &rt));
+}
+
+const FRONT: &[u8] = b"HTTP/1.1 200 OK\r\nX: ";
+
+const BACK: &[u8] = b"\r\nContent-Type: text/turtle\r\nContent-Length: 0\r\n\r\n";
+
+// A head of so many bytes.
+fn long_head(alloc: Global, rt: &impl Abort, len: usize) -> Vec<u8> {
+    let mut head = Vec::from_slice(alloc, FRONT).expect(rt, "memory");
+    for _ in 0..len.saturating_sub(FRONT.len()).saturating_sub(BACK.len()) {
+        head.push(b'a').expect(rt, "memory");
+    }
+    head.extend_from_slice(BACK).expect(rt, "memory");
+    head
+}
+
+fn long_head_is_read(alloc: Global, rt: &impl Abort, len: usize) -> bool {
+    let head = long_head(alloc, rt, len);
+    is_read(alloc, rt, head.as_slice(), b"")
+}
+
+fn long_head_is_malformed(alloc: Global, rt: &impl Abort, len: usize) -> bool {
+    let head = long_head(alloc, rt, len);
+    is_malformed(alloc, rt, head.as_slice())
+}
+
+#[test]
+fn reads_a_head_of_65536_bytes_and_none_that_is_longer(rt: HostRuntime) {
+    let alloc = rt.alloc();
+    assert!(rt; long_head_is_read(alloc, &rt, 65_536));
+    assert!(rt; long_head_is_malformed(alloc, &rt, 65_537));
+}
+
 const CUT: &[u8] =
     b"HTTP/1.1 200 OK\r\nContent-Type: text/turtle\r\nContent-Length: 12\r\n\r\n<a> <b> <c>";
 
@@ -103,13 +169,16 @@ fn is_cut(alloc: Global, rt: &impl Abort) -> bool {
     heard(alloc, rt, 1000, &[CUT]).is_none()
 }
 
-fn is_malformed(alloc: Global, rt: &impl Abort) -> bool {
-    let heard = heard(alloc, rt, 1000, &[TWO_LENGTHS]);
+const TWO_CODINGS: &[u8] =
+    b"HTTP/1.1 200 OK\r\nContent-Type: text/turtle\r\nTransfer-Encoding: gzip, chunked\r\n\r\n";
+
+fn is_malformed(alloc: Global, rt: &impl Abort, message: &[u8]) -> bool {
+    let heard = heard(alloc, rt, 1000, &[message]);
     matches!(&heard, Some(Heard::Malformed))
 }
 
-fn is_too_long(alloc: Global, rt: &impl Abort) -> bool {
-    let heard = heard(alloc, rt, 11, &[CHUNKED]);
+fn is_too_long(alloc: Global, rt: &impl Abort, message: &[u8]) -> bool {
+    let heard = heard(alloc, rt, 11, &[message]);
     matches!(&heard, Some(Heard::TooLong))
 }
 
@@ -117,6 +186,9 @@ fn is_too_long(alloc: Global, rt: &impl Abort) -> bool {
 fn refuses_what_is_cut_contradictory_or_long(rt: HostRuntime) {
     let alloc = rt.alloc();
     assert!(rt; is_cut(alloc, &rt));
-    assert!(rt; is_malformed(alloc, &rt));
-    assert!(rt; is_too_long(alloc, &rt));
+    assert!(rt; is_malformed(alloc, &rt, TWO_LENGTHS));
+    assert!(rt; is_malformed(alloc, &rt, TWO_CODINGS));
+    assert!(rt; is_malformed(alloc, &rt, b"HTTP/1.1 2x0 OK\r\n\r\n"));
+    assert!(rt; is_too_long(alloc, &rt, CHUNKED));
+    assert!(rt; is_too_long(alloc, &rt, CONTINUED));
 }

@@ -1,8 +1,8 @@
 //! HTTP messages: the request for a link, and responses read in any cut.
 //!
-//! Promise: a `Reading` gives what all bytes fed say together, however they were cut. Each list of
-//! bytes has one reading (`specs/Reading.antt`, `bytes_have_one_reading`), and an undecided one has
-//! few bytes. `request_bytes` is the one text of `specs/Request.antt`.
+//! Promise: a `Reading` gives what all bytes fed say together, however they were cut. A list of
+//! bytes has one reading at most (`specs/Reading.antt`, `bytes_have_one_reading`), and an undecided one
+//! has few bytes. `request_bytes` is the one text of `specs/Request.antt`.
 //! Not here: which replies are documents (`link_uri`, `doc_reader`), and connections (`outer_ports`).
 //!
 //! Want of memory is `Memory` everywhere; after it every argument that was lent is as before.
