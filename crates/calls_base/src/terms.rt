@@ -36,6 +36,14 @@ fn tagged(alloc: Global, rt: &impl Abort, lexical: &str, tag: &str) -> Term {
     Term::literal(lexical, datatype, Some(tag))
 }
 
+// A tag goes before the datatype, which is left out.
+fn tagged_string(alloc: Global, rt: &impl Abort) -> Term {
+    let lexical = text(alloc, rt, "a\t\"");
+    let datatype = text(alloc, rt, XSD_STRING);
+    let tag = text(alloc, rt, "en");
+    Term::literal(lexical, datatype, Some(tag))
+}
+
 fn has_form(alloc: Global, rt: &impl Abort, term: &Term, form: &str) -> bool {
     write_term(alloc, term).expect(rt, "memory").as_str() == form
 }
@@ -51,7 +59,7 @@ fn blank_has_form(alloc: Global, rt: &impl Abort) -> bool {
 }
 
 fn tagged_has_form(alloc: Global, rt: &impl Abort) -> bool {
-    let term = tagged(alloc, rt, "a\t\"", "en");
+    let term = tagged_string(alloc, rt);
     has_form(alloc, rt, &term, "\"a\\t\\\"\"@en")
 }
 

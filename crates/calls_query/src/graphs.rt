@@ -39,6 +39,7 @@ fn more(alloc: Global, rt: &impl Abort) -> [Triple; 3] {
 fn extended(alloc: Global, rt: &impl Abort) -> Graph {
     let mut graph = Graph::new(alloc);
     let _ = is_inserted(alloc, rt, &mut graph, "a");
+    let _ = is_inserted(alloc, rt, &mut graph, "a");
     let more = more(alloc, rt);
     graph.extend(&more).expect(rt, "memory");
     graph

@@ -67,6 +67,14 @@ fn meets_rights_in_their_order(alloc: Global, rt: &impl Abort) -> bool {
         && is_row(alloc, rt, &merges[2], "1", "2")
 }
 
+fn merges_with_a_left(alloc: Global, rt: &impl Abort) -> bool {
+    let mut node = Node::new(alloc, 2).expect(rt, "memory");
+    let _ = left_merges(alloc, rt, &mut node, "1", "");
+    let row = row(alloc, rt, "", "2");
+    let merges = node.feed_right(row).expect(rt, "memory");
+    merges.len() == 1 && is_row(alloc, rt, &merges[0], "1", "2")
+}
+
 fn meets_lefts(alloc: Global, rt: &impl Abort) -> bool {
     let mut node = with_rights(alloc, rt);
     let _ = left_merges(alloc, rt, &mut node, "1", "");
@@ -84,6 +92,7 @@ fn shortens(alloc: Global, rt: &impl Abort) -> bool {
 fn gives_each_row_its_merges(rt: HostRuntime) {
     let alloc = rt.alloc();
     assert!(rt; meets_rights_in_their_order(alloc, &rt));
+    assert!(rt; merges_with_a_left(alloc, &rt));
     assert!(rt; meets_lefts(alloc, &rt));
     assert!(rt; shortens(alloc, &rt));
 }

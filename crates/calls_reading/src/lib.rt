@@ -1,5 +1,5 @@
-//! Direct calls of the libraries that read texts: the texts of tokens, the two lexers, the two scans
-//! and the readers of documents. It has tests alone, since a library with tests of its own is proved
+//! Direct calls of the libraries that read texts: the texts of tokens, the two lexers, the two scans,
+//! the readers of documents, and requests and responses. It has tests alone, since a library with tests of its own is proved
 //! twice.
 //!
 //! Each public call that can answer want of memory is made at least once with ample memory, and its

@@ -37,10 +37,12 @@ fn takes_nothing(alloc: Global) -> bool {
     table.take() == None
 }
 
+// Two links, of which the first came again.
 fn two_links(alloc: Global, rt: &impl Abort) -> LinkTable {
     let mut table = LinkTable::new(alloc);
     let _ = number_of(alloc, rt, &mut table, FIRST);
     let _ = number_of(alloc, rt, &mut table, SECOND);
+    let _ = number_of(alloc, rt, &mut table, "http://a.test/1#again");
     table
 }
 
