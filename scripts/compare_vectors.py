@@ -62,6 +62,36 @@ def site_case(v):
     return "x" + v["hex"], "bad %d" % v["bad"] if "bad" in v else "site x" + v["hex"]
 
 
+def serve_case(v):
+    return "x%s x%s" % (v["site"], v["request"]), "x" + v["response"]
+
+
+def heard_text(heard):
+    if isinstance(heard, str):
+        return heard
+    fields = " ".join("none" if heard[k] is None else "x" + heard[k] for k in ("media", "coding", "location", "body"))
+    return "%d %s" % (heard["status"], fields)
+
+
+def fed_text(fed):
+    return "more;" if fed in ("more", "undecided") else "done " + heard_text(fed["done"] if isinstance(fed, dict) and "done" in fed else fed)
+
+
+def end_text(end):
+    return "" if end is None else "cut" if end == "cut" else "end " + heard_text(end.get("done", end))
+
+
+def message_case(v):
+    """A message in one piece, and its end where that is not decided."""
+    return "=%d x%s" % (v["limit"], v["hex"]), fed_text(v["read"]) + end_text(v.get("end"))
+
+
+def pieces_case(v):
+    """A message in pieces: what each gives, and the end."""
+    places = "".join(" =%d" % cut for cut in v["cuts"])
+    return "=%d x%s%s" % (v["limit"], v["hex"], places), "".join(map(fed_text, v["fed"])) + end_text(v["end"])
+
+
 ESCAPES = {"\\": "\\", '"': '"', "n": "\n", "r": "\r", "t": "\t"}
 
 
@@ -241,8 +271,48 @@ def query_case(v):
     return shown(v["text"]), " ".join(words)
 
 
-KINDS = {"link": link_case, "iri": iri_case, "site": site_case, "turtle_tokens": tokens_case, "turtle": turtle_case, "ntriples": document_case, "terms": terms_case,
-         "values": values_case, "expressions": expressions_case, "sparql_tokens": query_tokens_case, "sparql": query_case}
+def cell_text(cell):
+    return "-" if cell is None else shown(cell)
+
+
+def join_case(v):
+    """A join that grows: what each step of a node gives, and the numbers of its rows."""
+    steps, answer = [], ""
+    for step in v["steps"]:
+        for side in ("left", "right"):
+            if side in step:
+                steps.append(" ".join([side] + [cell_text(c) for c in step[side]]))
+                answer += "".join("(%s)" % " ".join(map(cell_text, row)) for row in step["out"])
+        if "shorten" in step:
+            steps.append("shorten %d %d" % tuple(step["shorten"]))
+        answer += "%d %d;" % tuple(step["lens"])
+    return "%d;%s" % (v["width"], ";".join(steps)), answer
+
+
+def join_orders():
+    """Six rows fed in every order, three to each side: with and without unbound places."""
+    from itertools import permutations
+    from ltq_oracle import algebra
+    rows = [("left", ("1", "2", None)), ("left", ("1", None, None)), ("left", ("3", "2", None)),
+            ("right", (None, "2", "5")), ("right", (None, None, "6")), ("right", ("1", "2", "5"))]
+    cases = []
+    for order in permutations(rows):
+        sides, steps = {"left": [], "right": []}, []
+        for side, row in order:
+            left = side == "left"
+            met = [b for b in sides["right" if left else "left"] if algebra.compatible(row, b)]
+            sides[side].append(row)
+            out = [algebra.merge(row, b) if left else algebra.merge(b, row) for b in met]
+            steps.append({side: row, "out": out, "lens": [len(sides["left"]), len(sides["right"])]})
+        cases.append(join_case({"width": 3, "steps": steps}))
+    return cases
+
+
+KINDS = {"link": link_case, "iri": iri_case, "site": site_case, "serve": serve_case, "turtle_tokens": tokens_case, "turtle": turtle_case, "ntriples": document_case, "terms": terms_case,
+         "values": values_case, "expressions": expressions_case, "sparql_tokens": query_tokens_case, "sparql": query_case, "http": message_case, "http_pieces": pieces_case, "join": join_case}
+
+# A kind whose cases the program knows by another kind's name.
+PROGRAM_KINDS = {"join_orders": "join"}
 
 # A kind whose cases the oracle gives with those of another kind.
 SOURCES = {"expressions": "values"}
@@ -273,6 +343,8 @@ def query_cases(kind, seed, count):
 def cases_of(kind, seed, count):
     if kind in QUERY_KINDS:
         return query_cases(kind, int(seed), int(count))
+    if kind == "join_orders":
+        return join_orders()
     if kind == "algebra":
         from algebra_vectors import cases
         return cases(int(seed), int(count))
@@ -289,7 +361,7 @@ def main():
     if len(cases) < int(count):
         print("vectors %s: the oracle gave %d cases of %s" % (kind, len(cases), count))
         return 1
-    ran = subprocess.run([program, kind], input="".join(c[0] + "\n" for c in cases).encode("utf-8"), stdout=subprocess.PIPE)
+    ran = subprocess.run([program, PROGRAM_KINDS.get(kind, kind)], input="".join(c[0] + "\n" for c in cases).encode("utf-8"), stdout=subprocess.PIPE)
     answers = ran.stdout.decode("utf-8").splitlines()
     if ran.returncode != 0 or len(answers) != len(cases):
         print("vectors %s: status %d, %d answers to %d cases" % (kind, ran.returncode, len(answers), len(cases)))

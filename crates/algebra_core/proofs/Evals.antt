@@ -2,14 +2,14 @@
 use Rattle.std.proofs.Common.{rules, ◌≡◌, ap, ℕ, List, [], ◌∷◌, ◌++◌, map, filter}
 use Rattle.rdf_terms.specs.declared.triple.Triple.{Triple}
 use Rattle.rows_core.specs.declared.pattern.TriplePattern.{TriplePattern}
-use Rattle.rows_core.specs.Rows.{free}
+use Rattle.rows_core.specs.Rows.{unbound}
 use Rattle.expr_eval.specs.declared.expr.Expr.{Expr}
 use Rattle.algebra_core.specs.declared.algebra.Algebra.{Algebra, Bgp, Join, Union, Filter, LeftJoin, the_lemmas}
 use Rattle.algebra_core.specs.declared.algebra.Algebra.TheOpen.{Algebra-F}
 use Rattle.algebra_core.specs.Graphs.{all_extended}
-use Rattle.algebra_core.specs.Meaning.{join, holds, left_joined, shown, Value, eval_step, eval, patterns_in}
+use Rattle.algebra_core.specs.Meaning.{join, holds, left_joined, restricted, Value, eval_step, eval, patterns_in}
 
-pub eval-Bgp : (ps : List TriplePattern) (width names : ℕ) (g : List Triple) → eval (Bgp ps) width names g ≡ map (shown names) (all_extended ps g (free width ∷ []))
+pub eval-Bgp : (ps : List TriplePattern) (width names : ℕ) (g : List Triple) → eval (Bgp ps) width names g ≡ map (restricted names) (all_extended ps g (unbound width ∷ []))
 eval-Bgp ps width names g = let opened : eval (Bgp ps) ≡ eval_step (Algebra-F.Bgp ps) = search (rules, the_lemmas) in ap (λ (v : Value). v width names g) opened
 
 pub eval-Join : (a b : Algebra) (width names : ℕ) (g : List Triple) → eval (Join a b) width names g ≡ join (eval a width names g) (eval b width names g)

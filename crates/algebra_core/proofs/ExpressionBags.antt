@@ -4,13 +4,13 @@ use Rattle.std.specs.Prelude.{◌&&◌}
 use Rattle.std.proofs.lemmas.List.Sorted.{IsPermutation-refl, length_permutation}
 use Rattle.rdf_terms.specs.declared.triple.Triple.{Triple}
 use Rattle.rows_core.specs.declared.pattern.TriplePattern.{TriplePattern}
-use Rattle.rows_core.specs.Rows.{Cells, free}
+use Rattle.rows_core.specs.Rows.{Cells, unbound}
 use Rattle.rows_core.specs.Bindings.{extensions}
 use Rattle.rows_core.proofs.Matching.{and_both}
 use Rattle.algebra_core.specs.declared.algebra.Algebra.{Algebra, Bgp, Join, Union, Filter, LeftJoin, the_lemmas}
 use Rattle.algebra_core.specs.Graphs.{extended, all_extended}
 use Rattle.expr_eval.specs.declared.expr.Expr.{Expr}
-use Rattle.algebra_core.specs.Meaning.{joined, join, holds, or_alone, left_joined, shown, is_plain}
+use Rattle.algebra_core.specs.Meaning.{joined, join, holds, or_alone, left_joined, restricted, is_plain}
 use Rattle.algebra_core.specs.Bags.{IsSubBag}
 use Rattle.algebra_core.specs.Laws.{IgnoresOrder, Grows}
 use Rattle.algebra_core.proofs.Bags.{same_bag, then_bag, back, both, flat_bag, flat_each, filter_bag, map_bag}
@@ -50,7 +50,7 @@ between : {X : Type 0} (a b c d : List X) → a ≡ b → d ≡ c → IsPermutat
 between a b c d e f p = then_bag (same_bag e) (then_bag p (back (same_bag f)))
 
 pub order_Bgp : (ps : List TriplePattern) → IgnoresOrder (Bgp ps)
-order_Bgp ps = record { bags = λ w n g h b. between _ _ _ _ (eval-Bgp ps w n g) (eval-Bgp ps w n h) (map_bag (shown n) _ _ (all_extended_bag ps g h (free w ∷ []) (free w ∷ []) b (IsPermutation-refl _))) }
+order_Bgp ps = record { bags = λ w n g h b. between _ _ _ _ (eval-Bgp ps w n g) (eval-Bgp ps w n h) (map_bag (restricted n) _ _ (all_extended_bag ps g h (unbound w ∷ []) (unbound w ∷ []) b (IsPermutation-refl _))) }
 
 pub order_Join : (a b : Algebra) → IgnoresOrder a → IgnoresOrder b → IgnoresOrder (Join a b)
 order_Join a b p q = record { bags = λ w n g h k. between _ _ _ _ (eval-Join a b w n g) (eval-Join a b w n h) (join_bags _ _ _ _ (p.bags w n g h k) (q.bags w n g h k)) }
@@ -92,7 +92,7 @@ plain-Union : (a b : Algebra) → is_plain (Union a b) ≡ (is_plain a && is_pla
 plain-Union a b = search (rules, the_lemmas)
 
 pub grow_Bgp : (ps : List TriplePattern) → Grows (Bgp ps)
-grow_Bgp ps = record { subs = λ e w n g h b. amid _ _ _ _ (eval-Bgp ps w n g) (eval-Bgp ps w n h) (sub_map (shown n) _ _ (all_extended_sub ps g h (free w ∷ []) (free w ∷ []) b (sub_refl _))) }
+grow_Bgp ps = record { subs = λ e w n g h b. amid _ _ _ _ (eval-Bgp ps w n g) (eval-Bgp ps w n h) (sub_map (restricted n) _ _ (all_extended_sub ps g h (unbound w ∷ []) (unbound w ∷ []) b (sub_refl _))) }
 
 pub grow_Join : (a b : Algebra) → Grows a → Grows b → Grows (Join a b)
 grow_Join a b p q = record {

@@ -9,7 +9,7 @@ use Rattle.rdf_terms.specs.Same.{same_triple}
 use Rattle.rdf_terms.proofs.Adding.{triple_tells}
 use Rattle.rows_core.specs.declared.pattern.TriplePattern.{TriplePattern}
 use Rattle.rows_core.specs.Patterns.{Mentions}
-use Rattle.rows_core.specs.Rows.{Cells, Binds, free}
+use Rattle.rows_core.specs.Rows.{Cells, Binds, unbound}
 use Rattle.rows_core.specs.Bindings.{IsExtended, Gives, bound, extensions}
 use Rattle.rows_core.proofs.Bindable.{same_extended, twice_extended, value_kept}
 use Rattle.rows_core.proofs.Domains.{binds_kept, one_binding, extended_width, nothing_new, IsOver, one_row, bound_mentions, bound_least, bound_there, mentioned, More, over_bound, one_triple}
@@ -105,40 +105,40 @@ lead (p ∷ ps) g rows row r h e =
 
 -- ---- from the row that binds nothing
 
-free_extended : (width : ℕ) (r : Cells) → length r ≡ width → IsExtended (free width) r
-free_extended zero [] e = tt
-free_extended zero (c ∷ cs) e = absurd (omega arith)
-free_extended (suc n) [] e = absurd (omega arith)
-free_extended (suc n) (c ∷ cs) e = free_extended n cs (omega arith)
+unbound_extended : (width : ℕ) (r : Cells) → length r ≡ width → IsExtended (unbound width) r
+unbound_extended zero [] e = tt
+unbound_extended zero (c ∷ cs) e = absurd (omega arith)
+unbound_extended (suc n) [] e = absurd (omega arith)
+unbound_extended (suc n) (c ∷ cs) e = unbound_extended n cs (omega arith)
 
-free_width : (width : ℕ) → length (free width) ≡ width
-free_width zero = refl
-free_width (suc n) = ap suc (free_width n)
+unbound_width : (width : ℕ) → length (unbound width) ≡ width
+unbound_width zero = refl
+unbound_width (suc n) = ap suc (unbound_width n)
 
-free_binds : (width v : ℕ) (x : Term) → Binds (free width) v x → ⊥
-free_binds zero v x e = cc
-free_binds (suc n) zero x e = let z : None ≡ Some x = same_Some None (Some x) e in cc
-free_binds (suc n) (suc v) x e = free_binds n v x e
+unbound_binds : (width v : ℕ) (x : Term) → Binds (unbound width) v x → ⊥
+unbound_binds zero v x e = cc
+unbound_binds (suc n) zero x e = let z : None ≡ Some x = same_Some None (Some x) e in cc
+unbound_binds (suc n) (suc v) x e = unbound_binds n v x e
 
 abbrev start : ℕ → List Cells
-start width = free width ∷ []
+start width = unbound width ∷ []
 
 is_instance : (ps : List TriplePattern) (width : ℕ) (g : List Triple) (row r : Cells) → IsIn (start width) row → Leads ps g row r → IsPatternInstance ps width g r
 is_instance ps width g row r (inl f) e =
-    let s : Leads ps g (free width) r = subst (λ (c : Cells). Leads ps g c r) (sym f) e in
+    let s : Leads ps g (unbound width) r = subst (λ (c : Cells). Leads ps g c r) (sym f) e in
     record {
-      width = extended_width (free width) r s.extends ∙ free_width width;
+      width = extended_width (unbound width) r s.extends ∙ unbound_width width;
       triples = s.triples;
-      variables = λ v x b. elim (s.variables v x b) [ inl l ↦ absurd (free_binds width v x l) | inr q ↦ q ];
+      variables = λ v x b. elim (s.variables v x b) [ inl l ↦ absurd (unbound_binds width v x l) | inr q ↦ q ];
     }
 is_instance ps width g row r (inr h) e = absurd h
 
-pub found_instance : (ps : List TriplePattern) (width : ℕ) (g : List Triple) (r : Cells) → IsIn (all_extended ps g (free width ∷ [])) r → IsPatternInstance ps width g r
+pub found_instance : (ps : List TriplePattern) (width : ℕ) (g : List Triple) (r : Cells) → IsIn (all_extended ps g (unbound width ∷ [])) r → IsPatternInstance ps width g r
 found_instance ps width g r h = let n = led ps g (start width) r h in is_instance ps width g n.0 r n.1 n.2
 
-pub instance_found : (ps : List TriplePattern) (width : ℕ) (g : List Triple) (r : Cells) → IsPatternInstance ps width g r → IsIn (all_extended ps g (free width ∷ [])) r
+pub instance_found : (ps : List TriplePattern) (width : ℕ) (g : List Triple) (r : Cells) → IsPatternInstance ps width g r → IsIn (all_extended ps g (unbound width ∷ [])) r
 instance_found ps width g r s =
-    lead ps g (start width) (free width) r (inl refl) (record { extends = free_extended width r s.width; triples = s.triples; variables = λ v x b. inr (s.variables v x b) })
+    lead ps g (start width) (unbound width) r (inl refl) (record { extends = unbound_extended width r s.width; triples = s.triples; variables = λ v x b. inr (s.variables v x b) })
 
 triples_within : (ps : List TriplePattern) (g h : List Triple) (r : Cells) → IsWithin g h → AreTriples ps g r → AreTriples ps h r
 triples_within [] g h r w a = tt
@@ -147,7 +147,7 @@ triples_within (p ∷ ps) g h r w a = ((a.0.0, w a.0.0 a.0.1, a.0.2), triples_wi
 instance_within : (ps : List TriplePattern) (width : ℕ) (g h : List Triple) (r : Cells) → IsWithin g h → IsPatternInstance ps width g r → IsPatternInstance ps width h r
 instance_within ps width g h r w s = record { width = s.width; triples = triples_within ps g h r w s.triples; variables = s.variables }
 
-pub are_instances : (ps : List TriplePattern) (width : ℕ) (g : List Triple) (r : Cells) → IsIn (all_extended ps (graph g) (free width ∷ [])) r ↔ IsPatternInstance ps width g r
+pub are_instances : (ps : List TriplePattern) (width : ℕ) (g : List Triple) (r : Cells) → IsIn (all_extended ps (graph g) (unbound width ∷ [])) r ↔ IsPatternInstance ps width g r
 are_instances ps width g r = (
   (λ h. instance_within ps width (graph g) g r (once_within same_triple triple_tells g) (found_instance ps width (graph g) r h)),
   (λ s. instance_found ps width (graph g) r (instance_within ps width g (graph g) r (within_once same_triple triple_tells g) s)),
@@ -174,12 +174,12 @@ apart_all D (p ∷ ps) g rows a b o =
 abbrev Nothing : ℕ → Type 0
 Nothing v = ⊥
 
-over_nothing : (width : ℕ) → IsOver Nothing (free width)
-over_nothing width = record { of = λ v x e. free_binds width v x e; all = λ v d. absurd d }
+over_nothing : (width : ℕ) → IsOver Nothing (unbound width)
+over_nothing width = record { of = λ v x e. unbound_binds width v x e; all = λ v d. absurd d }
 
 over_start : (width : ℕ) (row : Cells) → IsIn (start width) row → IsOver Nothing row
 over_start width row (inl e) = subst (λ (c : Cells). IsOver Nothing c) e (over_nothing width)
 over_start width row (inr h) = absurd h
 
-pub instances_apart : (ps : List TriplePattern) (width : ℕ) (g : List Triple) → Apart (all_extended ps (graph g) (free width ∷ []))
+pub instances_apart : (ps : List TriplePattern) (width : ℕ) (g : List Triple) → Apart (all_extended ps (graph g) (unbound width ∷ []))
 instances_apart ps width g = apart_all Nothing ps (graph g) (start width) (once_apart same_triple triple_tells g) ((λ h. h), tt) (over_start width)

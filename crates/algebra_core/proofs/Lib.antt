@@ -15,3 +15,4 @@ pub mod Flat
 pub mod Instances
 pub mod LeftJoins
 pub mod Shapes
+pub mod Substituting

@@ -11,7 +11,7 @@ use Rattle.rdf_terms.proofs.Adding.{all_push}
 use Rattle.algebra_core.specs.Graphs.{extended, all_extended, once}
 use Rattle.algebra_core.specs.Query.{same_row}
 use Rattle.algebra_core.proofs.Bags.{filter_append}
-use Rattle.algebra_core.specs.Meaning.{shown}
+use Rattle.algebra_core.specs.Meaning.{restricted}
 
 extended_push : (ps : List TriplePattern) (p : TriplePattern) (g : List Triple) (rows : List Cells) → all_extended (ps ++ p ∷ []) g rows ≡ extended p g (all_extended ps g rows)
 extended_push [] p g rows = refl
@@ -20,25 +20,26 @@ extended_push (q ∷ ps) p g rows = extended_push ps p g (extended q g rows)
 pub extended_more : (ps : List TriplePattern) (i : ℕ) (d : TriplePattern) (g : List Triple) (rows : List Cells) → i < length ps → all_extended (take (i + 1) ps) g rows ≡ extended (get_or ps i d) g (all_extended (take i ps) g rows)
 extended_more ps i d g rows h = ap (λ (l : List TriplePattern). all_extended l g rows) (take_more ps i d h) ∙ extended_push (take i ps) (get_or ps i d) g rows
 
--- a row with no variable past its names is shown whole
-pub shown_short : (n : ℕ) (cs : Cells) → length cs ≤ n → shown n cs ≡ cs
-shown_short n [] h = refl
-shown_short zero (c ∷ cs) h = absurd (omega arith)
-shown_short (suc n) (c ∷ cs) h = ap (λ (l : Cells). c ∷ l) (shown_short n cs (omega arith))
-
 -- before the first cell that is hidden
-pub shown_first : (n : ℕ) (cs : Cells) → n ≤ length cs → shown n cs ≡ take n cs ++ shown zero (drop n cs)
-shown_first zero [] h = refl
-shown_first zero (c ∷ cs) h = refl
-shown_first (suc n) [] h = absurd (omega arith)
-shown_first (suc n) (c ∷ cs) h = ap (λ (l : Cells). c ∷ l) (shown_first n cs (omega arith))
+pub restricted_first : (n : ℕ) (cs : Cells) → restricted n cs ≡ take n cs ++ restricted zero (drop n cs)
+restricted_first zero [] = refl
+restricted_first zero (c ∷ cs) = refl
+restricted_first (suc n) [] = refl
+restricted_first (suc n) (c ∷ cs) = ap (λ (l : Cells). c ∷ l) (restricted_first n cs)
+
+-- behind the last cell
+pub restricted_last : (i : ℕ) (cs : Cells) → length cs ≤ i → take i cs ++ restricted zero (drop i cs) ≡ cs
+restricted_last zero [] h = refl
+restricted_last (suc i) [] h = refl
+restricted_last zero (c ∷ cs) h = absurd (omega arith)
+restricted_last (suc i) (c ∷ cs) h = ap (λ (l : Cells). c ∷ l) (restricted_last i cs (omega arith))
 
 -- one more cell is hidden
-pub hidden_more : (i : ℕ) (cs : Cells) → i < length cs → take (i + 1) (set cs i None) ++ shown zero (drop (i + 1) (set cs i None)) ≡ take i cs ++ shown zero (drop i cs)
+pub hidden_more : (i : ℕ) (cs : Cells) → i < length cs → take (i + 1) (set cs i None) ++ restricted zero (drop (i + 1) (set cs i None)) ≡ take i cs ++ restricted zero (drop i cs)
 hidden_more i cs h =
-    ap₂ (λ (a b : Cells). a ++ shown zero b) (take_more_set cs i None h) (drop-set-lt (i + 1) cs i None (omega arith))
-    ∙ append_assoc (take i cs) (None ∷ []) (shown zero (drop (i + 1) cs))
-    ∙ ap (λ (l : Cells). take i cs ++ shown zero l) (sym (drop_more cs i None h))
+    ap₂ (λ (a b : Cells). a ++ restricted zero b) (take_more_set cs i None h) (drop-set-lt (i + 1) cs i None (omega arith))
+    ∙ append_assoc (take i cs) (None ∷ []) (restricted zero (drop (i + 1) cs))
+    ∙ ap (λ (l : Cells). take i cs ++ restricted zero l) (sym (drop_more cs i None h))
 
 -- one more row is read
 pub once_push : (xs : List Cells) (x : Cells) → once same_row (xs ++ x ∷ []) ≡ add_once same_row (once same_row xs) x

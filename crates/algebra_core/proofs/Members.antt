@@ -36,6 +36,10 @@ rest_apart (y ∷ ys) after x a =
     let r = rest_apart ys after x a.1 in
     (((λ h. a.0 (in_whole ys after x y h)), r.0), (λ h. elim h [ inl e ↦ a.0 (in_right ys (x ∷ after) y (inl (sym e))) | inr k ↦ r.1 k ]))
 
+-- a member of a list without repeats does not stand before itself
+pub apart_seam : {X : Type 0} (before after : List X) (x : X) → Apart (before ++ x ∷ after) → IsIn before x → ⊥
+apart_seam before after x a h = (rest_apart before after x a).1 (in_left before after x h)
+
 -- what is more in the second list, which is no member of the first
 pub record Rest {X : Type 0} (xs ys : List X) : Type 0 where
   pub more : List X

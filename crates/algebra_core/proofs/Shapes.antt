@@ -9,7 +9,7 @@ use Rattle.rdf_terms.specs.declared.triple.Triple.{Triple}
 use Rattle.rdf_terms.specs.Lists.{IsIn}
 use Rattle.rdf_terms.proofs.Members.{in_left, in_right, in_either, from_map}
 use Rattle.rows_core.specs.declared.pattern.TriplePattern.{TriplePattern}
-use Rattle.rows_core.specs.Rows.{Cells, free, fits, merged}
+use Rattle.rows_core.specs.Rows.{Cells, unbound, fits, merged}
 use Rattle.rows_core.proofs.Joining.{merged_width}
 use Rattle.expr_eval.specs.declared.expr.Expr.{Expr}
 use Rattle.expr_eval.specs.Order.{term_order}
@@ -17,7 +17,7 @@ use Rattle.expr_eval.proofs.OrderLaws.{term_order-ties}
 use Rattle.algebra_core.specs.declared.algebra.Algebra.{Algebra, Bgp, Join, Union, Filter, LeftJoin}
 use Rattle.algebra_core.specs.declared.query.Query.{Query}
 use Rattle.algebra_core.specs.Graphs.{graph, all_extended}
-use Rattle.algebra_core.specs.Meaning.{joined, join, shown, holds, or_alone, left_joined, bindings_of, eval}
+use Rattle.algebra_core.specs.Meaning.{joined, join, restricted, holds, or_alone, left_joined, bindings_of, eval}
 use Rattle.algebra_core.specs.Order.{keys_cmp, bindings_cmp, numbers, names_cmp, by_name, solution_cmp, row_cmp}
 use Rattle.algebra_core.specs.Query.{body_rows}
 use Rattle.algebra_core.specs.Ranks.{first_of, rest_of}
@@ -31,25 +31,25 @@ use Rattle.algebra_core.proofs.Instances.{found_instance}
 
 -- ---- rows without blank nodes
 
-shown_width : (n : ℕ) (cs : Cells) → length (shown n cs) ≡ length cs
-shown_width n [] = refl
-shown_width zero (c ∷ cs) = ap suc (shown_width zero cs)
-shown_width (suc n) (c ∷ cs) = ap suc (shown_width n cs)
+restricted_width : (n : ℕ) (cs : Cells) → length (restricted n cs) ≡ length cs
+restricted_width n [] = refl
+restricted_width zero (c ∷ cs) = ap suc (restricted_width zero cs)
+restricted_width (suc n) (c ∷ cs) = ap suc (restricted_width n cs)
 
-shown_twice : (n : ℕ) (cs : Cells) → shown n (shown n cs) ≡ shown n cs
-shown_twice n [] = refl
-shown_twice zero (c ∷ cs) = ap (λ (l : Cells). None ∷ l) (shown_twice zero cs)
-shown_twice (suc n) (c ∷ cs) = ap (λ (l : Cells). c ∷ l) (shown_twice n cs)
+restricted_twice : (n : ℕ) (cs : Cells) → restricted n (restricted n cs) ≡ restricted n cs
+restricted_twice n [] = refl
+restricted_twice zero (c ∷ cs) = ap (λ (l : Cells). None ∷ l) (restricted_twice zero cs)
+restricted_twice (suc n) (c ∷ cs) = ap (λ (l : Cells). c ∷ l) (restricted_twice n cs)
 
-shown_merged : (n : ℕ) (a b : Cells) → shown n (merged a b) ≡ merged (shown n a) (shown n b)
-shown_merged n [] b = refl
-shown_merged zero (x ∷ xs) [] = refl
-shown_merged (suc n) (x ∷ xs) [] = refl
-shown_merged zero (x ∷ xs) (y ∷ ys) = ap (λ (l : Cells). None ∷ l) (shown_merged zero xs ys)
-shown_merged (suc n) (x ∷ xs) (y ∷ ys) = ap (λ (l : Cells). Rattle.rows_core.specs.Rows.first_bound x y ∷ l) (shown_merged n xs ys)
+restricted_merged : (n : ℕ) (a b : Cells) → restricted n (merged a b) ≡ merged (restricted n a) (restricted n b)
+restricted_merged n [] b = refl
+restricted_merged zero (x ∷ xs) [] = refl
+restricted_merged (suc n) (x ∷ xs) [] = refl
+restricted_merged zero (x ∷ xs) (y ∷ ys) = ap (λ (l : Cells). None ∷ l) (restricted_merged zero xs ys)
+restricted_merged (suc n) (x ∷ xs) (y ∷ ys) = ap (λ (l : Cells). Rattle.rows_core.specs.Rows.first_bound x y ∷ l) (restricted_merged n xs ys)
 
 shaped_merged : (w n : ℕ) (a b : Cells) → fits a b ≡ true → IsShaped w n a → IsShaped w n b → IsShaped w n (merged a b)
-shaped_merged w n a b h s t = (merged_width a b h ∙ s.0, shown_merged n a b ∙ ap₂ (λ (x y : Cells). merged x y) s.1 t.1)
+shaped_merged w n a b h s t = (merged_width a b h ∙ s.0, restricted_merged n a b ∙ ap₂ (λ (x y : Cells). merged x y) s.1 t.1)
 
 -- ---- members
 
@@ -91,10 +91,10 @@ left_shaped w n p xs ys s t r h =
       | inr k ↦ one_shaped w n m.0 ys (s m.0 m.1) t r (in_filter p (flat_map (joined m.0) ys) r k)
     ]
 
-pattern_shaped : (w n : ℕ) (ps : List TriplePattern) (g : List Triple) (r : Cells) → IsIn (map (shown n) (all_extended ps g (free w ∷ []))) r → IsShaped w n r
+pattern_shaped : (w n : ℕ) (ps : List TriplePattern) (g : List Triple) (r : Cells) → IsIn (map (restricted n) (all_extended ps g (unbound w ∷ []))) r → IsShaped w n r
 pattern_shaped w n ps g r h =
-    let m = from_map (shown n) (all_extended ps g (free w ∷ [])) r h in
-    subst (λ (c : Cells). IsShaped w n c) m.2 (shown_width n m.0 ∙ (found_instance ps w g m.0 m.1).width, shown_twice n m.0)
+    let m = from_map (restricted n) (all_extended ps g (unbound w ∷ [])) r h in
+    subst (λ (c : Cells). IsShaped w n c) m.2 (restricted_width n m.0 ∙ (found_instance ps w g m.0 m.1).width, restricted_twice n m.0)
 
 -- ---- expressions
 
@@ -145,7 +145,7 @@ in_numbers (suc n) v h = elim (below_or_last v n h) [ inl l ↦ in_left (numbers
 named : (names : List (List ℕ)) (v : ℕ) → v < length names → IsIn (by_name names) v
 named names v h = bag_within (numbers (length names)) (by_name names) (in_order_bag (names_cmp names) (names_total names) (names_ties names) (numbers (length names))) v (in_numbers (length names) v h)
 
-same_row_of : (n : ℕ) (a b : Cells) → length a ≡ length b → shown n a ≡ a → shown n b ≡ b → ((v : ℕ) → v < n → bindings_of a v ≡ bindings_of b v) → a ≡ b
+same_row_of : (n : ℕ) (a b : Cells) → length a ≡ length b → restricted n a ≡ a → restricted n b ≡ b → ((v : ℕ) → v < n → bindings_of a v ≡ bindings_of b v) → a ≡ b
 same_row_of n [] [] l e f h = refl
 same_row_of n [] (d ∷ ds) l e f h = absurd (let z : zero ≡ suc (length ds) = l in omega arith)
 same_row_of n (c ∷ cs) [] l e f h = absurd (let z : suc (length cs) ≡ zero = l in omega arith)

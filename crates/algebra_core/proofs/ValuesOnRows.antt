@@ -3,7 +3,7 @@ use Rattle.std.proofs.Common.{◌≡◌, Option, Some, None, refl, ap, ◌∙◌
 use Rattle.rdf_terms.specs.declared.term.Term.{Term}
 use Rattle.expr_eval.specs.declared.evaluation.Evaluated.{Evaluated}
 use Rattle.expr_eval.specs.declared.evaluation.Evaluated.TheVariants.{Value, TypeError}
-use Rattle.expr_eval.specs.Held.{evaluated}
+use Rattle.expr_eval.specs.Views.{evaluated}
 
 -- the term of an answer, if it is one
 abbrev answer_term : Evaluated → Option Term

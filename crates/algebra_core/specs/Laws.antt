@@ -5,7 +5,7 @@ use Rattle.rdf_terms.specs.declared.triple.Triple.{Triple}
 use Rattle.rdf_terms.specs.Lists.{IsIn}
 use Rattle.rows_core.specs.Rows.{Cells}
 use Rattle.algebra_core.specs.declared.algebra.Algebra.{Algebra}
-use Rattle.algebra_core.specs.Meaning.{eval, is_plain, shown}
+use Rattle.algebra_core.specs.Meaning.{eval, is_plain, restricted}
 use Rattle.algebra_core.specs.Bags.{IsSubBag}
 
 -- what it gives, as a bag, does not depend on the order of the triples
@@ -18,7 +18,7 @@ pub record Grows (a : Algebra) : Type 0 where
 
 -- the row has the width, and binds no blank node of a pattern
 abbrev pub IsShaped : ℕ → ℕ → Cells → Type 0
-IsShaped width names row = (length row ≡ width) × (shown names row ≡ row)
+IsShaped width names row = (length row ≡ width) × (restricted names row ≡ row)
 
 -- so does each row that it gives
 pub record KeepsShape (a : Algebra) : Type 0 where

@@ -6,4 +6,5 @@ pub mod Query
 pub mod Bags
 pub mod Laws
 pub mod PatternInstances
+pub mod Substitution
 pub mod OptionalParts

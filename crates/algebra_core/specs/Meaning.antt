@@ -6,7 +6,7 @@ use Rattle.rdf_terms.specs.declared.triple.Triple.{Triple}
 use Rattle.rows_core.specs.declared.pattern.TriplePattern.{TriplePattern}
 use Rattle.expr_eval.specs.declared.expr.Expr.{Expr}
 use Rattle.expr_eval.specs.Value.{value_of, truth_of, is_true}
-use Rattle.rows_core.specs.Rows.{Cells, fits, merged, free, cell_or_free}
+use Rattle.rows_core.specs.Rows.{Cells, fits, merged, unbound, cell_or_unbound}
 use Rattle.algebra_core.specs.declared.algebra.Algebra.{Algebra, fold-Algebra}
 use Rattle.algebra_core.specs.declared.algebra.Algebra.TheOpen.{Algebra-F}
 use Rattle.algebra_core.specs.Graphs.{all_extended}
@@ -20,14 +20,14 @@ abbrev pub join : List Cells → List Cells → List Cells
 join xs ys = flat_map (λ a. flat_map (joined a) ys) xs
 
 -- the row without the bindings of the variables from a number on; these are the blank nodes of patterns (section 18.3.1: a solution is the restriction to the variables)
-abbrev pub shown : ℕ → Cells → Cells
-shown n [] = []
-shown zero (c ∷ cs) = None ∷ shown zero cs
-shown (suc n) (c ∷ cs) = c ∷ shown n cs
+abbrev pub restricted : ℕ → Cells → Cells
+restricted n [] = []
+restricted zero (c ∷ cs) = None ∷ restricted zero cs
+restricted (suc n) (c ∷ cs) = c ∷ restricted n cs
 
 -- the term of each variable that the row binds
 abbrev pub bindings_of : Cells → ℕ → Option Term
-bindings_of row v = cell_or_free (slice_get row v)
+bindings_of row v = cell_or_unbound (slice_get row v)
 
 -- the expression's effective boolean value on the row is true; a type error is not (section 17.2)
 abbrev pub holds : Expr → Cells → Bool
@@ -41,13 +41,13 @@ or_alone a (r ∷ rs) = r ∷ rs
 abbrev pub left_joined : (Cells → Bool) → List Cells → List Cells → List Cells
 left_joined p xs ys = flat_map (λ a. or_alone a (filter p (flat_map (joined a) ys))) xs
 
--- the rows of a width, from the number of names, over a list of triples
+-- the rows of a width, from the number of names, over a graph: a list of triples in which each stands once; `body_rows` gives it such a list, and the laws `each_triple_stands_once` and `expressions_ignore_order` say what follows
 abbrev pub Value : Type 0
 Value = ℕ → ℕ → List Triple → List Cells
 
 -- a basic graph pattern: the solutions, then without the blank nodes; Join: the merges of compatible pairs; Union: both lists; Filter: the rows on which it holds; LeftJoin: with the optional part where there is one
 abbrev pub eval_step : Algebra-F Value → Value
-eval_step (Algebra-F.Bgp ps) width names g = map (shown names) (all_extended ps g (free width ∷ []))
+eval_step (Algebra-F.Bgp ps) width names g = map (restricted names) (all_extended ps g (unbound width ∷ []))
 eval_step (Algebra-F.Join a b) width names g = join (a width names g) (b width names g)
 eval_step (Algebra-F.Union a b) width names g = a width names g ++ b width names g
 eval_step (Algebra-F.Filter e a) width names g = filter (holds e) (a width names g)

@@ -2,8 +2,7 @@ ghost use Rattle.std.specs.Prelude.{◌≡◌, ◌++◌, IfOk};
 ghost use Rattle.algebra_core.specs.Meaning as spec;
 
 use expr_eval::Expr;
-use items_core::Boxed;
-use rdf_terms::{Memory, Seq};
+use rdf_terms::{Boxed, Memory, Seq};
 use rows_core::TriplePattern;
 use std::alloc::Global;
 

@@ -1,6 +1,6 @@
 ghost use Rattle.std.specs.Prelude.{◌≡◌, IfOk, slice_get};
 ghost use Rattle.std.specs.Option.{option_copied};
-ghost use Rattle.rows_core.specs.Rows.{cell_or_free};
+ghost use Rattle.rows_core.specs.Rows.{cell_or_unbound};
 ghost use Rattle.expr_eval.specs.Value as value;
 ghost use Rattle.algebra_core.specs.Meaning as spec;
 
@@ -27,7 +27,7 @@ impl Env for RowBindings<'_> {
 
 /// The term of a cell, if there is one.
 pub(crate) fn cell_at(cells: &[Option<Term>], place: usize) -> Option<&Term>
-    ensures { option_copied result ≡ cell_or_free (slice_get cells.now place) }
+    ensures { option_copied result ≡ cell_or_unbound (slice_get cells.now place) }
 {
     if place < cells.len() {
         cells[place].as_ref()

@@ -1,12 +1,12 @@
-ghost use Rattle.std.specs.Prelude.{◌≡◌, [], ◌∷◌, ◌++◌, IfOk, map, filter, length};
+ghost use Rattle.std.specs.Prelude.{◌≡◌, [], ◌∷◌, ◌++◌, IfOk, OnOk, map, filter, length};
 ghost use Rattle.std.specs.List.{flat_map};
-ghost use Rattle.rows_core.specs.Bindings.{extensions};
-ghost use Rattle.rows_core.specs.Rows.{projected, free};
-ghost use Rattle.algebra_core.specs.Graphs.{extended, all_extended, once};
+ghost use Rattle.rows_core.specs.Rows.{projected, unbound};
+ghost use Rattle.algebra_core.specs.Graphs.{all_extended, once, graph as spec_graph};
 ghost use Rattle.algebra_core.specs.Meaning as spec;
 ghost use Rattle.algebra_core.specs.Query.{same_row, distinct_if, body_rows, Answers, solutions};
 
 use crate::algebra::Algebra;
+use crate::basic_patterns::extend_all;
 use crate::conditions::holds;
 use crate::ordering::ordered_rows;
 use crate::query::Query;
@@ -14,38 +14,58 @@ use expr_eval::Expr;
 use growing_graph::Graph;
 use indexmap::IndexSet;
 use rdf_terms::{Memory, Seq, Term, Triple};
-use rows_core::{Row, TriplePattern, bind, compatible, merge};
+use rows_core::{Row, TriplePattern, compatible, merge};
 use std::alloc::Global;
 
 /// The solutions of the query over the triples as a set (SPARQL 1.1 Query Language, sections 15 and
 /// 18.5): in order where the query has keys, then projected, then each once where DISTINCT is asked.
 ///
-/// It is the plain evaluation, nested loops over a finished list. It costs a hash and a copy of each
-/// triple; for each pattern a test of each row so far with each triple, and a row for each that is
-/// extended; for a join or an optional part a test of each pair of rows, and a row for each pair that
-/// fits; for a filter an evaluation a row. With keys it costs an evaluation of each key a row and
-/// n log n comparisons of n rows; for DISTINCT a hash of each row.
+/// It costs a graph of the triples, into which each is copied, and then what `evaluate_over` costs.
 pub fn evaluate_query(alloc: Global, query: &Query, triples: &[Triple]) -> Result<Seq<Row>, Memory>
     ensures list { IfOk result (λ rows. rows ≡ solutions query.now triples.now) }
     ensures answers { IfOk result (λ rows. Answers query.now triples.now rows) }
 {
-    let rows = body_solutions(alloc, query, triples)?;
+    let graph = graph_of(alloc, triples)?;
+    let rows = evaluate_over(alloc, query, &graph)?;
+    Ok(rows)
+}
+
+fn graph_of(alloc: Global, triples: &[Triple]) -> Result<Graph, Memory>
+    ensures { IfOk result (λ graph. graph ≡ spec_graph triples.now) }
+{
+    let mut graph = Graph::new(alloc);
+    graph.extend(triples)?;
+    Ok(graph)
+}
+
+/// The solutions of the query over the graph, as `evaluate_query` gives them over its triples.
+///
+/// It is nested loops over a finished graph. For each pattern it costs for each row so far a look-up
+/// by the terms of the pattern and of the row, a test of each triple that has the rarest of them in
+/// its place, and a row for each that extends it; for a join or an optional part a test of each pair of rows, and
+/// a row for each pair that fits; for a filter an evaluation a row. With keys it costs an evaluation
+/// of each key a row and n log n comparisons of n rows; for DISTINCT a hash of each row.
+pub fn evaluate_over(alloc: Global, query: &Query, graph: &Graph) -> Result<Seq<Row>, Memory>
+    ensures list { IfOk result (λ rows. rows ≡ solutions query.now graph.now) }
+    ensures answers { IfOk result (λ rows. Answers query.now graph.now rows) }
+{
+    let rows = body_solutions(alloc, query, graph)?;
     let rows = ordered_rows(alloc, query, rows)?;
     let rows = project_rows(alloc, query.select.as_slice(), rows)?;
     let rows = distinct_rows(alloc, query.distinct, rows)?;
     Ok(Seq::from_vec(rows))
 }
 
-fn body_solutions(alloc: Global, query: &Query, triples: &[Triple]) -> Result<Vec<Row>, Memory>
-    ensures { IfOk result (λ rows. rows.items ≡ body_rows query.now triples.now) }
+fn body_solutions(alloc: Global, query: &Query, graph: &Graph) -> Result<Vec<Row>, Memory>
+    ensures { IfOk result (λ rows. rows.items ≡ body_rows query.now graph.now) }
 {
-    let mut graph = Graph::new(alloc);
-    graph.extend(triples)?;
+    graph.has_each_once();
     let size = Size {
         width: query.width,
         names: query.names.len(),
     };
-    evaluate(alloc, size, &query.body, graph.as_slice())
+    let rows = evaluate(alloc, size, &query.body, graph)?;
+    Ok(rows)
 }
 
 /// The width of rows, and the number of variables with names.
@@ -55,35 +75,30 @@ struct Size {
     names: usize,
 }
 
-/// What an expression gives over a list of triples.
+/// What an expression gives over a graph.
 #[tactic(auto, using(crate::proofs::Evals::evals))]
-fn evaluate(
-    alloc: Global,
-    size: Size,
-    algebra: &Algebra,
-    triples: &[Triple],
-) -> Result<Vec<Row>, Memory>
-    ensures { IfOk result (λ rows. rows.items ≡ spec.eval algebra.now size.width size.names triples.now) }
+fn evaluate(alloc: Global, size: Size, algebra: &Algebra, graph: &Graph) -> Result<Vec<Row>, Memory>
+    ensures { IfOk result (λ rows. rows.items ≡ spec.eval algebra.now size.width size.names graph.now) }
 {
     match algebra {
-        Algebra::Bgp(patterns) => evaluate_bgp(alloc, size, patterns.as_slice(), triples),
+        Algebra::Bgp(patterns) => evaluate_bgp(alloc, size, patterns.as_slice(), graph),
         Algebra::Join(a, b) => {
-            let a = evaluate(alloc, size, a.get(), triples)?;
-            let b = evaluate(alloc, size, b.get(), triples)?;
+            let a = evaluate(alloc, size, a.get(), graph)?;
+            let b = evaluate(alloc, size, b.get(), graph)?;
             join_rows(alloc, a.as_slice(), b.as_slice())
         }
         Algebra::Union(a, b) => {
-            let a = evaluate(alloc, size, a.get(), triples)?;
-            let b = evaluate(alloc, size, b.get(), triples)?;
+            let a = evaluate(alloc, size, a.get(), graph)?;
+            let b = evaluate(alloc, size, b.get(), graph)?;
             both(a, b)
         }
         Algebra::Filter(expr, a) => {
-            let a = evaluate(alloc, size, a.get(), triples)?;
+            let a = evaluate(alloc, size, a.get(), graph)?;
             filtered(alloc, expr, a)
         }
         Algebra::LeftJoin(a, b, expr) => {
-            let a = evaluate(alloc, size, a.get(), triples)?;
-            let b = evaluate(alloc, size, b.get(), triples)?;
+            let a = evaluate(alloc, size, a.get(), graph)?;
+            let b = evaluate(alloc, size, b.get(), graph)?;
             left_join_rows(alloc, expr, a, b.as_slice())
         }
     }
@@ -102,67 +117,14 @@ fn evaluate_bgp(
     alloc: Global,
     size: Size,
     patterns: &[TriplePattern],
-    triples: &[Triple],
+    graph: &Graph,
 ) -> Result<Vec<Row>, Memory>
-    ensures { IfOk result (λ rows. rows.items ≡ map (spec.shown size.names) (all_extended patterns.now triples.now (free size.width ∷ []))) }
+    ensures { IfOk result (λ rows. rows.items ≡ map (spec.restricted size.names) (all_extended patterns.now graph.now (unbound size.width ∷ []))) }
 {
     let mut rows = Vec::new(alloc);
-    rows.push(Row::free(alloc, size.width)?)?;
-    let rows = extend_all(alloc, patterns, triples, rows)?;
-    shown_rows(alloc, size.names, rows)
-}
-
-/// The rows extended by each pattern in turn.
-#[tactic(auto, using(crate::proofs::Loops::extended_more))]
-fn extend_all(
-    alloc: Global,
-    patterns: &[TriplePattern],
-    triples: &[Triple],
-    rows: Vec<Row>,
-) -> Result<Vec<Row>, Memory>
-    ensures { IfOk result (λ all. all.items ≡ all_extended patterns.now triples.now rows.items) }
-{
-    let mut all = rows;
-    for pattern in patterns {
-        all = extend_rows(alloc, pattern, triples, all.as_slice())?;
-    }
-    Ok(all)
-}
-
-#[tactic(auto, using(crate::proofs::GraphSteps::flat_more))]
-fn extend_rows(
-    alloc: Global,
-    pattern: &TriplePattern,
-    triples: &[Triple],
-    rows: &[Row],
-) -> Result<Vec<Row>, Memory>
-    ensures { IfOk result (λ all. all.items ≡ extended pattern.now triples.now rows.now) }
-{
-    let mut all = Vec::new(alloc);
-    for row in rows {
-        let mut more = extend_row(alloc, pattern, triples, row)?;
-        all.append(&mut more)?;
-    }
-    Ok(all)
-}
-
-/// The row's extensions by the triples.
-#[tactic(auto, using(crate::proofs::GraphSteps::flat_more))]
-fn extend_row(
-    alloc: Global,
-    pattern: &TriplePattern,
-    triples: &[Triple],
-    row: &Row,
-) -> Result<Vec<Row>, Memory>
-    ensures { IfOk result (λ all. all.items ≡ flat_map (λ t. extensions pattern.now t row.now) triples.now) }
-{
-    let mut all = Vec::new(alloc);
-    for triple in triples {
-        if let Some(more) = bind(alloc, pattern, triple, row)? {
-            all.push(more)?;
-        }
-    }
-    Ok(all)
+    rows.push(Row::unbound(alloc, size.width)?)?;
+    let rows = extend_all(alloc, patterns, graph, rows)?;
+    restricted_rows(alloc, size.names, rows)
 }
 
 #[tactic(auto, using(crate::proofs::GraphSteps::flat_more))]
@@ -171,24 +133,22 @@ fn join_rows(alloc: Global, firsts: &[Row], seconds: &[Row]) -> Result<Vec<Row>,
 {
     let mut all = Vec::new(alloc);
     for first in firsts {
-        let mut more = merges(alloc, first, seconds)?;
-        all.append(&mut more)?;
+        push_merges(alloc, first, seconds, &mut all)?;
     }
     Ok(all)
 }
 
-/// The merges with each compatible row.
+/// Appends the merges with each compatible row.
 #[tactic(auto, using(crate::proofs::GraphSteps::flat_more))]
-fn merges(alloc: Global, row: &Row, others: &[Row]) -> Result<Vec<Row>, Memory>
-    ensures { IfOk result (λ all. all.items ≡ flat_map (spec.joined row.now) others.now) }
+fn push_merges(alloc: Global, row: &Row, others: &[Row], all: &mut Vec<Row>) -> Result<(), Memory>
+    ensures { OnOk result (all.new.items ≡ all.old.items ++ flat_map (spec.joined row.now) others.now) }
 {
-    let mut all = Vec::new(alloc);
     for other in others {
         if compatible(row, other) {
             all.push(merge(alloc, row, other)?)?;
         }
     }
-    Ok(all)
+    Ok(())
 }
 
 /// The rows on which the expression holds.
@@ -216,7 +176,8 @@ fn left_join_rows(
 {
     let mut all = Vec::new(alloc);
     for first in firsts {
-        let found = merges(alloc, &first, seconds)?;
+        let mut found = Vec::new(alloc);
+        push_merges(alloc, &first, seconds, &mut found)?;
         let kept = filtered(alloc, expr, found)?;
         let mut more = or_alone(alloc, first, kept)?;
         all.append(&mut more)?;
@@ -237,31 +198,28 @@ fn or_alone(alloc: Global, first: Row, matches: Vec<Row>) -> Result<Vec<Row>, Me
 }
 
 /// The rows without the bindings of blank nodes.
-fn shown_rows(alloc: Global, names: usize, rows: Vec<Row>) -> Result<Vec<Row>, Memory>
-    ensures { IfOk result (λ all. all.items ≡ map (spec.shown names) rows.items) }
+fn restricted_rows(alloc: Global, names: usize, rows: Vec<Row>) -> Result<Vec<Row>, Memory>
+    ensures { IfOk result (λ all. all.items ≡ map (spec.restricted names) rows.items) }
 {
     let mut all = Vec::new(alloc);
     for row in rows {
-        all.push(shown(names, row))?;
+        all.push(restricted(names, row))?;
     }
     Ok(all)
 }
 
-fn shown(names: usize, row: Row) -> Row
-    ensures { result ≡ spec.shown names row }
+fn restricted(names: usize, row: Row) -> Row
+    ensures { result ≡ spec.restricted names row }
 {
     let mut cells = row.into_vec();
     hide(names, cells.as_mut_slice());
     Row::from_vec(cells)
 }
 
-#[tactic(auto, using(crate::proofs::Loops::hidden_more, crate::proofs::Loops::shown_first, crate::proofs::Loops::shown_short))]
+#[tactic(auto, using(crate::proofs::Loops::hidden_more, crate::proofs::Loops::restricted_first, crate::proofs::Loops::restricted_last))]
 fn hide(names: usize, cells: &mut [Option<Term>])
-    ensures { cells.new ≡ spec.shown names cells.old }
+    ensures { cells.new ≡ spec.restricted names cells.old }
 {
-    if names >= cells.len() {
-        return;
-    }
     for i in names..cells.len() {
         cells[i] = None;
     }

@@ -3,12 +3,12 @@ ghost use Rattle.std.specs.List.Sorted.{IsPermutation, IsSorted};
 ghost use Rattle.rdf_terms.specs.declared.triple.Triple.{Triple};
 ghost use Rattle.rdf_terms.specs.Lists.{IsIn, Apart};
 ghost use Rattle.rows_core.specs.declared.pattern.TriplePattern.{TriplePattern};
-ghost use Rattle.rows_core.specs.Rows.{Cells, free};
+ghost use Rattle.rows_core.specs.Rows.{Cells, unbound};
 ghost use Rattle.algebra_core.specs.Bags.{IsSubBag, SameMembers, IsWithin};
 ghost use Rattle.algebra_core.specs.Graphs.{graph, all_extended};
 ghost use Rattle.algebra_core.specs.PatternInstances.{IsPatternInstance};
 ghost use Rattle.algebra_core.specs.Laws.{IgnoresOrder, Grows, KeepsShape};
-ghost use Rattle.algebra_core.specs.Meaning.{join, left_joined};
+ghost use Rattle.algebra_core.specs.Meaning.{eval, join, left_joined};
 ghost use Rattle.algebra_core.specs.Order.{in_order, row_cmp, solution_cmp};
 ghost use Rattle.algebra_core.specs.OptionalParts.{unmatched};
 ghost use Rattle.algebra_core.specs.Query.{Answers, IsMonotone, body_rows, solutions};
@@ -22,8 +22,8 @@ use crate::query::Query;
 ///
 /// A law: it does nothing.
 pub fn pattern_rows_are_instances()
-    ensures exact { (patterns : List TriplePattern) (width : ℕ) (g : List Triple) (row : Cells) → IsIn (all_extended patterns (graph g) (free width ∷ [])) row ↔ IsPatternInstance patterns width g row }
-    ensures once { (patterns : List TriplePattern) (width : ℕ) (g : List Triple) → Apart (all_extended patterns (graph g) (free width ∷ [])) }
+    ensures exact { (patterns : List TriplePattern) (width : ℕ) (g : List Triple) (row : Cells) → IsIn (all_extended patterns (graph g) (unbound width ∷ [])) row ↔ IsPatternInstance patterns width g row }
+    ensures once { (patterns : List TriplePattern) (width : ℕ) (g : List Triple) → Apart (all_extended patterns (graph g) (unbound width ∷ [])) }
 {}
 
 /// A left join is, as a bag, the join with the rows that fail the condition left out, and the rows
@@ -74,6 +74,27 @@ pub fn names_break_ties(query: &Query)
 {
     keep_shape(&query.body);
 }
+
+/// What an expression gives over a graph is, as a bag, one for each order of its triples, and so one
+/// for each way to list them once.
+///
+/// A law: it walks over the expression, and gives nothing.
+pub fn expressions_ignore_order(algebra: &Algebra)
+    ensures bags { IgnoresOrder algebra.now }
+    ensures graphs { (width names : ℕ) (g h : List Triple) → Apart g → Apart h → SameMembers g h → IsPermutation (eval algebra.now width names g) (eval algebra.now width names h) }
+{
+    ignore_order(algebra);
+}
+
+/// The body of a query is evaluated over a graph: a list of triples each of which stands once, and
+/// has the members of the list that is given. A graph is its own.
+///
+/// A law: it does nothing.
+pub fn each_triple_stands_once()
+    ensures once { (triples : List Triple) → Apart (graph triples) }
+    ensures same { (triples : List Triple) → SameMembers (graph triples) triples }
+    ensures own { (triples : List Triple) → Apart triples → graph triples ≡ triples }
+{}
 
 #[tactic(auto, using(crate::proofs::Shapes::shapes))]
 fn keep_shape(algebra: &Algebra)

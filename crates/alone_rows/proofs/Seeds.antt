@@ -11,8 +11,8 @@ own_none us e = λ v h. absurd (subst (λ (l : List Link). IsIn l v) e h)
 
 -- one more, which is the link of its text
 pub own_push : (us vs : List Link) (u : Link) → vs ≡ us ++ u ∷ [] → AreLinks us → IsLink u → AreLinks vs
-own_push us vs u e own one = λ v h.
+own_push us vs u e valid_links one = λ v h.
     elim (in_either us (u ∷ []) v (subst (λ (l : List Link). IsIn l v) e h)) [
-      | inl a ↦ own v a
+      | inl a ↦ valid_links v a
       | inr b ↦ elim b [ inl f ↦ subst IsLink f one | inr z ↦ absurd z ]
     ]

@@ -1,10 +1,10 @@
 //! The calls of a traversal one by one, each on a line with what it answers.
 ghost use Rattle.std.specs.Prelude.{◌≡◌, None, Ok, IsTrue, true, OnOk, IfOk};
 ghost use Rattle.link_uri.specs.declared.link.Scheme.TheVariants.{Https};
-ghost use Rattle.reach_terms.specs.declared.outcome.Outcome.TheVariants.{Refused};
-ghost use Rattle.reach_terms.specs.declared.outcome.Why.TheVariants as why;
+ghost use Rattle.reachability.specs.declared.outcome.Outcome.TheVariants.{Refused};
+ghost use Rattle.reachability.specs.declared.outcome.Why.TheVariants as why;
 ghost use Rattle.doc_reader.specs.Outcome.{HasLinks};
-ghost use Rattle.row_writer.specs.Output.{IsClear};
+ghost use Rattle.result_writer.specs.Output.{IsClear};
 ghost use Rattle.traverse_core.specs.Run.{HasLinks as FoundHasLinks, MayFind};
 ghost use Rattle.traverse_core.specs.State.{is_running, IsDry};
 
@@ -13,7 +13,7 @@ use doc_reader::read_ntriples;
 use link_uri::{Link, Scheme, link_of};
 use outer_ports::MemorySink;
 use rdf_terms::{Memory, Seq};
-use reach_terms::{Found, Outcome, Why};
+use reachability::{Found, Outcome, Why};
 use std::alloc::Global;
 use traverse_core::{Drawn, Job, Traversal, Written};
 use turtle_reader::ReadFault;

@@ -10,7 +10,7 @@ use link_uri::Link;
 use outer_ports::MemorySink;
 use rdf_terms::{Memory, TextBuf};
 use reach_criteria::Criterion;
-use reach_terms::Web;
+use reachability::Web;
 use std::alloc::Global;
 use std::marker::Brand;
 use traverse_core::{Finished, Job, Ran, Traversal};
@@ -19,6 +19,7 @@ use web_port::{FetchSettings, Fetcher, MemoryWeb};
 /// The most bytes of a body.
 const BODY: u64 = 1_048_576;
 
+#[tactic(auto, using(traverse_core::proofs::Stepping::tells_same))]
 fn run_named<J: Job, F: Fetcher>(
     alloc: Global,
     query: Query,
@@ -27,7 +28,7 @@ fn run_named<J: Job, F: Fetcher>(
     out: MemorySink,
     fetcher: &mut F,
 ) -> Result<(Ran, Finished<MemorySink>), Memory>
-    requires own { AreLinks seeds.items }
+    requires valid_links { AreLinks seeds.items }
     requires query { query ≡ J.run.query }
     requires seeds { seeds.items ≡ J.run.seeds }
     requires criterion { J.run.criterion ≡ criterion.None }
@@ -37,6 +38,7 @@ fn run_named<J: Job, F: Fetcher>(
     requires fetch { J.run.fetch ≡ F.fetch fetcher.old }
     requires idle { (F.port fetcher.old).flights ≡ [] }
 {
+    let _room = fetcher.room();
     match Traversal::<J, MemorySink>::open(alloc, query, seeds, Criterion::None, limit, out) {
         Ok(run) => {
             let mut run = run;
@@ -87,7 +89,7 @@ fn shown_query(
     room: u64,
 ) -> Result<String, Memory>
     requires idle { fetcher.flying.flights ≡ [] }
-    requires own { AreLinks seeds.items }
+    requires valid_links { AreLinks seeds.items }
 {
     let mut fetcher = fetcher;
     let out = MemorySink::new(alloc, room);

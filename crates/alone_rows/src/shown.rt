@@ -1,7 +1,7 @@
 //! Runs as text.
 use outer_ports::MemorySink;
 use rdf_terms::Memory;
-use reach_terms::{Cause, Entry, Found, Outcome, Record, Why};
+use reachability::{Cause, Entry, Found, Outcome, Record, Why};
 use std::alloc::Global;
 use traverse_core::{Finished, Halt, Ran};
 use web_port::{Losses, MemoryWeb};

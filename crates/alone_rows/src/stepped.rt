@@ -1,5 +1,5 @@
 //! Traversals whose calls are made one by one, and by a list of commands.
-ghost use Rattle.std.specs.Prelude.{◌≡◌, None, Some, IfOk, IfSome, OnOk};
+ghost use Rattle.std.specs.Prelude.{◌≡◌, None, Some, false, IfOk, IfSome, OnOk};
 ghost use Rattle.link_uri.specs.Links.{AreLinks};
 ghost use Rattle.reach_criteria.specs.declared.criterion.Criterion.TheVariants as criterion;
 ghost use Rattle.traverse_core.specs.Steps.{AllMayBe, MayBe};
@@ -12,7 +12,7 @@ use link_uri::{Link, link_of};
 use outer_ports::MemorySink;
 use rdf_terms::Memory;
 use reach_criteria::Criterion;
-use reach_terms::{Found, Why};
+use reachability::{Found, Why};
 use std::alloc::Global;
 use std::collections::VecDeque;
 use std::marker::Brand;
@@ -268,6 +268,7 @@ fn ended_text(
 
 // How the calls went on a new traversal, and what it ends with. It gives up nothing while the
 // traversal is open.
+#[tactic(auto, using(traverse_core::proofs::Stepping::tells_unsure))]
 fn run_calls<J: Job>(
     alloc: Global,
     way: Way,
@@ -276,13 +277,14 @@ fn run_calls<J: Job>(
     seeds: Vec<Link>,
     out: MemorySink,
 ) -> (Result<String, Memory>, Option<Finished<MemorySink>>)
-    requires own { AreLinks seeds.items }
+    requires valid_links { AreLinks seeds.items }
     requires query { query ≡ J.run.query }
     requires seeds { seeds.items ≡ J.run.seeds }
     requires criterion { J.run.criterion ≡ criterion.All }
     requires limit { J.run.limit ≡ 100 }
     requires out { (J.run.content ≡ Some out.content) × (J.run.faults ≡ out.faults) }
     requires untold { J.run.fetch.web ≡ None }
+    requires unsure { J.run.fetch.sure ≡ false }
 {
     match Traversal::<J, MemorySink>::open(alloc, query, seeds, Criterion::All, 100, out) {
         Ok(run) => {

@@ -5,7 +5,7 @@ ghost use Rattle.link_uri.specs.Links.{AreLinks};
 use algebra_core::{Algebra, Key, Query};
 use link_uri::{Heard, Link, Reply, link_of};
 use rdf_terms::{ByteBuf, Memory, Seq, Term, TextBuf};
-use reach_terms::Web;
+use reachability::Web;
 use rows_core::{Spot, TriplePattern};
 use site_core::{Site, read_site};
 use std::alloc::Global;

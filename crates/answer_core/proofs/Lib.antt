@@ -1,8 +1,10 @@
 pub mod Many
+pub mod Evidence
 pub mod Ends
 pub mod Turning
 pub mod Reports
 pub mod Complete
+pub mod Promising
 pub mod Seeds
 pub mod Reading
 pub mod Queries

@@ -4,11 +4,11 @@ use Rattle.std.proofs.lemmas.List.{length-map}
 use Rattle.rdf_terms.specs.Lists.{IsIn, Apart}
 use Rattle.rdf_terms.proofs.Members.{in_left, in_right, in_either}
 use Rattle.link_uri.specs.declared.link.Link.{Link}
-use Rattle.reach_terms.specs.declared.outcome.Outcome.{Outcome}
-use Rattle.reach_terms.specs.declared.record.Found.TheVariants.{Outcome as Told}
-use Rattle.reach_terms.specs.declared.record.Record.{Record}
-use Rattle.reach_terms.specs.Reach.{Text, Rule, GoesOn, IsPath, IsReachable, NoLink, HasOutcome}
-use Rattle.reach_terms.specs.Record.{IsTraversed, IsFaithful, LooksUpReachable, OutcomesOf, Unreached, entry_link, entry_links, named_links}
+use Rattle.reachability.specs.declared.outcome.Outcome.{Outcome}
+use Rattle.reachability.specs.declared.record.Found.TheVariants.{Outcome as Told}
+use Rattle.reachability.specs.declared.record.Record.{Record}
+use Rattle.reachability.specs.Reach.{Text, Rule, GoesOn, IsPath, IsReachable, NoLink, HasOutcome}
+use Rattle.reachability.specs.Record.{IsTraversed, IsFaithful, LooksUpReachable, OutcomesOf, Unreached, entry_link, entry_links, named_links}
 use Rattle.std.specs.declared.option.Option.{Option}
 use Rattle.answer_core.specs.Headline.{IsBeyond}
 
@@ -63,13 +63,13 @@ is_beyond r out rule seeds limit t f n some full = record {
   reachable = λ u i. let p = t.reached u i in record { over = p.over; path = along r out rule seeds p.over u f n p.path };
   more =
       let size = length-append (entry_links r.entries) r.queued in
-      let own = length-map r.entries entry_link in
+      let valid_links = length-map r.entries entry_link in
       let left = some_length r.queued some in
-      omega (arith, size, own, left, full);
+      omega (arith, size, valid_links, left, full);
 }
 
 pub not_beyond : (r : Record) (out : Link → Option Outcome) (rule : Rule) (seeds : List Text) (limit : ℕ) → IsTraversed r seeds rule limit → LooksUpReachable out r seeds rule → IsBeyond out r seeds rule limit → ⊥
 not_beyond r out rule seeds limit t exactly b =
     let fit = fits_in b.links (entry_links r.entries) b.apart (λ u i. exactly.all u (b.reachable u i)) in
-    let own = length-map r.entries entry_link in
-    absurd (omega (arith, fit, own, b.more, t.limited))
+    let valid_links = length-map r.entries entry_link in
+    absurd (omega (arith, fit, valid_links, b.more, t.limited))

@@ -1,13 +1,15 @@
 -- A text has at most one query, and none where it is refused; it is refused at one place, for one reason.
-use Rattle.std.proofs.Common.{ℕ, ◌≡◌, List, Result, Ok, Err, refl, sym, ap, ◌∙◌}
-use Rattle.std.specs.Prelude.{is_ok}
+use Rattle.std.proofs.Common.{ℕ, ◌≡◌, List, Option, Some, Result, Ok, Err, refl, sym, ap, ◌∙◌}
+use Rattle.std.specs.Prelude.{is_ok, unwrap_or}
 use Rattle.std.proofs.lemmas.Bool.{false≢true}
 use Rattle.algebra_core.specs.declared.query.Query.{Query}
 use Rattle.sparql_parser.specs.declared.fault.QueryFault.{QueryFault}
 use Rattle.sparql_parser.specs.declared.fault.QueryFault.TheVariants as faults
 use Rattle.sparql_parser.specs.Answer.{IsAnswer, most_bytes}
 use Rattle.sparql_parser.proofs.Unique.{only_answer}
-use Rattle.answer_core.specs.Command.{Asked, IsCommandOf, with_query}
+use Rattle.link_uri.specs.declared.link.Link.{Link}
+use Rattle.answer_core.specs.Command.{IsCommandOf, command_with, links_of}
+use Rattle.answer_core.specs.Words.{Arguments}
 use Rattle.answer_core.specs.declared.command.Command.{Command}
 use Rattle.answer_core.specs.declared.status.QueryWhy.{QueryWhy}
 use Rattle.answer_core.specs.declared.status.QueryWhy.TheVariants as why
@@ -17,17 +19,23 @@ abbrev query_or : Query → Result Query QueryFault → Query
 query_or q (Ok p) = p
 query_or q (Err e) = q
 
-pub one_query : (text : List ℕ) (p q : Query) → HasQuery text p → HasQuery text q → p ≡ q
+pub one_query : (text : List ℕ) (p q : Query) → HasQuery text (Ok p) → HasQuery text (Ok q) → p ≡ q
 one_query text p q h g = ap (query_or p) (only_answer text (Ok p) (Ok q) h g)
 
--- so the words ask for at most one command
-pub one_command : (a : Asked) (q : Query) (c d : Command) → HasQuery a.query q → c ≡ with_query a q → IsCommandOf a d → c ≡ d
-one_command a q c d h e x = e ∙ (ap (with_query a) (one_query a.query q x.0 h x.1) ∙ sym x.2)
+pub same_some : {X : Type 0} (x y : X) → Some x ≡ Some y → x ≡ y
+same_some x y e = ap (λ o. unwrap_or o x) e
 
-no_fault : (text : List ℕ) (q : Query) (f : QueryFault) → HasQuery text q → IsAnswer text (Err f) → ⊥
+-- so the words ask for at most one command
+pub one_command : (a : Arguments) (seeds : List Link) (q : Query) (d : Command) → links_of a.seeds ≡ Some seeds → HasQuery a.query (Ok q) → IsCommandOf a d → d ≡ command_with a seeds q
+one_command a seeds q d l h x =
+    let same_seeds : d.seeds ≡ seeds = same_some d.seeds seeds (sym x.seeds ∙ l) in
+    let same_query : d.query ≡ q = one_query a.query d.query q x.query h in
+    x.is ∙ (λ i. command_with a (same_seeds i) (same_query i))
+
+no_fault : (text : List ℕ) (q : Query) (f : QueryFault) → HasQuery text (Ok q) → IsAnswer text (Err f) → ⊥
 no_fault text q f h g = false≢true (ap is_ok (only_answer text (Err f) (Ok q) g h))
 
-pub not_both : (text : List ℕ) (q : Query) (at : ℕ) (reason : QueryWhy) → HasQuery text q → IsRefused text at reason → ⊥
+pub not_both : (text : List ℕ) (q : Query) (at : ℕ) (reason : QueryWhy) → HasQuery text (Ok q) → IsRefused text at reason → ⊥
 not_both text q at why.Syntax h g = no_fault text q (faults.Syntax at) h g
 not_both text q at why.Unsupported h g = no_fault text q (faults.Unsupported at) h g
 not_both text q at why.Deep h g = no_fault text q (faults.Deep at) h g

@@ -1,89 +1,118 @@
--- What a run of a command says by its record, and what it wrote.
-use Rattle.std.specs.Prelude.{ℕ, ◌≡◌, ◌≢◌, ◌<◌, ◌≤◌, List, [], ◌++◌, Option, Some, None, length, take}
+-- What `answer_alone` promises, on one page. Five words of it are said elsewhere after the public standards, and may be taken as given: `HasQuery`
+-- (the text is of a query), `SiteText` (the bytes are of a site), `outcome_of` (what a look-up in a web comes to), `IsReachable` (links lead from a
+-- seed to a link) and `Answers` (rows answer a query over a graph).
+use Rattle.std.specs.Prelude.{ℕ, ◌≡◌, ◌≢◌, ◌<◌, ◌≤◌, ◌+◌, ◌⊎◌, List, [], ◌++◌, Option, Some, None, IfSome, length, take}
+use Rattle.std.specs.Io.KnownBytes.{prepend_known, IsAtEnd}
+use Rattle.outer_ports.specs.Causes.{Rose}
 use Rattle.rows_core.specs.Rows.{Cells}
 use Rattle.rdf_terms.specs.Lists.{IsIn, Apart}
 use Rattle.link_uri.specs.declared.link.Link.{Link}
-use Rattle.link_uri.specs.Links.{texts}
-use Rattle.json_results.specs.Results.{result_text}
+use Rattle.json_results.specs.Results.{head_text, result_text}
 use Rattle.algebra_core.specs.Query.{Answers}
-use Rattle.reach_terms.specs.declared.outcome.Outcome.{Outcome}
-use Rattle.reach_terms.specs.declared.record.Record.{Record}
-use Rattle.reach_terms.specs.declared.web.Web.{Web}
-use Rattle.reach_terms.specs.Reach.{Text, Rule, IsReachable, HasOutcome}
-use Rattle.reach_terms.specs.Record.{IsTraversed, IsFaithful, HasEnded, LooksUpReachable, Unreached, merged_graph}
+use Rattle.site_core.specs.Text.{Entry, SiteText, site_limit}
+use Rattle.site_core.specs.Places.{SiteBad}
+use Rattle.reachability.specs.declared.outcome.Outcome.{Outcome}
+use Rattle.reachability.specs.declared.record.Record.{Record}
+use Rattle.reachability.specs.Web.{ToldWeb, heard_at}
+use Rattle.reachability.specs.Reach.{Text, Rule, IsReachable, HasOutcome}
+use Rattle.reachability.specs.Record.{IsTraversed, IsFaithful, HasEnded, LooksUpReachable, Unreached, merged_graph}
 use Rattle.doc_reader.specs.Outcome.{outcome_of}
-use Rattle.traverse_core.specs.Query.{patterns_of, selected_names}
+use Rattle.web_port.specs.SiteWeb.{web_of_site}
+use Rattle.traverse_core.specs.Query.{selected_names}
 use Rattle.answer_core.specs.declared.command.Command.{Command}
-use Rattle.answer_core.specs.Codes.{HasEnd}
+use Rattle.answer_core.specs.Codes.{ended_status}
+use Rattle.answer_core.specs.Command.{Asks, IsCommandOf, rule_of, seeds_of}
+use Rattle.answer_core.specs.Queries.{IsRefused}
+use Rattle.answer_core.specs.Reported.{GrewByPrefix, Received, ReceivedPrefix, memory_line}
+use Rattle.answer_core.specs.Words.{Arguments}
+use Rattle.answer_core.specs.declared.status.QueryWhy.{QueryWhy}
 use Rattle.answer_core.specs.declared.status.Status.{Status}
 use Rattle.answer_core.specs.declared.status.Status.TheVariants.{Ok, Partial, Limit, Query, Site, Input, Output, Memory, Report, NotBuilt}
 
--- the most bytes of a body
-abbrev pub body_limit : ℕ
-body_limit = 1048576
+-- ---- how a run ends, in five classes
 
--- the links that the run begins with
-abbrev pub seeds_of : Command → List Text
-seeds_of c = texts c.seeds
+-- it came to its end; the output failed; the words, the input, the site or the query were refused; memory ran out; it came to its end, and the report failed
+pub data Class : Type 0 where
+  Ended : Class
+  Halted : Class
+  Refused : Class
+  NoMemory : Class
+  Unreported : Class
 
--- which links of documents it follows
-abbrev pub rule_of : Command → Rule
-rule_of c = record { criterion = c.criterion; patterns = patterns_of c.query }
+abbrev pub class_of : Status → Class
+class_of Ok = Ended
+class_of Partial = Ended
+class_of Limit = Ended
+class_of Output = Halted
+class_of Memory = NoMemory
+class_of Report = Unreported
+class_of status = Refused
 
--- ---- the record
+pub data Duty : Type 0 where
+  Must : Duty
+  May : Duty
+  Never : Duty
 
--- a status that may have a record, and one that may lack it
-abbrev pub HasRecord : Status → Type 0
-HasRecord Ok = Unit {0}
-HasRecord Partial = Unit {0}
-HasRecord Limit = Unit {0}
-HasRecord (Query at why) = ⊥
-HasRecord (Site at) = ⊥
-HasRecord Input = ⊥
-HasRecord Output = Unit {0}
-HasRecord Memory = Unit {0}
-HasRecord Report = Unit {0}
-HasRecord NotBuilt = ⊥
+abbrev pub Holds : Duty → Type 0 → Type 0
+Holds Must fact = fact
+Holds May fact = Unit {0}
+Holds Never fact = fact → ⊥
 
-abbrev pub HasNoRecord : Status → Type 0
-HasNoRecord Ok = ⊥
-HasNoRecord Partial = ⊥
-HasNoRecord Limit = ⊥
-HasNoRecord (Query at why) = Unit {0}
-HasNoRecord (Site at) = Unit {0}
-HasNoRecord Input = Unit {0}
-HasNoRecord Output = ⊥
-HasNoRecord Memory = Unit {0}
-HasNoRecord Report = ⊥
-HasNoRecord NotBuilt = Unit {0}
+-- there is a record; the whole answer is written, over a record that has ended; the faults of the report rose
+pub record Row : Type 0 where
+  pub has_record : Duty
+  pub is_whole : Duty
+  pub report_fails : Duty
 
--- the same, by whether there is one
-abbrev pub IsRecorded : Status → Option Record → Type 0
-IsRecorded status (Some r) = HasRecord status
-IsRecorded status None = HasNoRecord status
+abbrev pub row : Class → Row
+row Ended = record { has_record = Must; is_whole = Must; report_fails = Never }
+row Halted = record { has_record = Must; is_whole = May; report_fails = May }
+row Refused = record { has_record = Never; is_whole = Never; report_fails = May }
+row NoMemory = record { has_record = May; is_whole = May; report_fails = May }
+row Unreported = record { has_record = Must; is_whole = Must; report_fails = Must }
 
--- the record is closed under the links that it knows, all in it is reachable by them, and a run that
--- came to its end has ended: nothing is queued, or as many links were looked up as may be
-abbrev pub Traversed : Command → Status → Option Record → Type 0
-Traversed c status (Some r) = HasRecord status × IsTraversed r (seeds_of c) (rule_of c) c.limit × (HasEnd status → HasEnded r c.limit)
-Traversed c status None = HasNoRecord status
+-- the faults of the input rose, and those of the output
+abbrev pub input_fails : Status → Duty
+input_fails Input = Must
+input_fails Memory = May
+input_fails status = Never
 
--- ---- what was written
+abbrev pub output_fails : Status → Duty
+output_fails Output = Must
+output_fails Memory = May
+output_fails status = Never
 
--- behind what the sink held stands the whole text of the answers over the merged graph
-abbrev pub WroteWhole : Command → Record → Option (List ℕ) → Option (List ℕ) → Type 0
-WroteWhole c r old new = (before : List ℕ) → old ≡ Some before → (rows : List Cells) × Answers c.query (merged_graph r.entries) rows
-    × (new ≡ Some (before ++ result_text (selected_names c.query) rows))
+-- a count of faults: it rose, may have risen, or is unchanged; it never falls
+abbrev pub CountsFaults : Duty → ℕ → ℕ → Type 0
+CountsFaults Must before now = Rose before now × (before ≤ now)
+CountsFaults May before now = before ≤ now
+CountsFaults Never before now = now ≡ before
 
--- behind what the sink held stands a prefix of such a text, which may be empty or the whole
-abbrev pub WrotePrefix : Command → Record → Option (List ℕ) → Option (List ℕ) → Type 0
-WrotePrefix c r old new = (before : List ℕ) → old ≡ Some before → (rows : List Cells) × Answers c.query (merged_graph r.entries) rows
-    × ((n : ℕ) × (n ≤ length (result_text (selected_names c.query) rows)) × (new ≡ Some (before ++ take n (result_text (selected_names c.query) rows))))
+-- ---- the record, and what was written
 
--- with a record a prefix was written, and the whole text where the run came to its end; without one nothing was
-abbrev pub Written : Command → Status → Option Record → Option (List ℕ) → Option (List ℕ) → Type 0
-Written c status (Some r) old new = (HasEnd status → WroteWhole c r old new) × WrotePrefix c r old new
-Written c status None old new = new ≡ old
+-- by the class there is a record or there is none, and the status of a run that ended is the one that its record says
+abbrev pub StatusMatchesRecord : Status → Option Record → Type 0
+StatusMatchesRecord status (Some r) = Holds ((row (class_of status)).has_record) (Unit {0}) × (class_of status ≡ Ended → status ≡ ended_status r)
+StatusMatchesRecord status None = Holds ((row (class_of status)).has_record) ⊥
+
+-- the record is closed under the links that it knows, all in it is reachable by them, and where the run came to its end nothing is queued or the limit is reached
+abbrev pub Traversed : Command → Class → Record → Type 0
+Traversed c class r = IsTraversed r (seeds_of c) (rule_of c) c.limit × Holds ((row class).is_whole) (HasEnded r c.limit)
+
+-- behind what the output held stand the first `count` bytes of the text of rows that answer the query over the merged graph of the record: the
+-- whole text where the run came to its end, and no more than its head as long as the record hasn't ended
+pub record Wrote (c : Command) (class : Class) (r : Record) (before : List ℕ) (after : Option (List ℕ)) : Type 0 where
+  pub rows : List Cells
+  pub answers : Answers c.query (merged_graph r.entries) rows
+  pub count : ℕ
+  pub within : count ≤ length (result_text (selected_names c.query) rows)
+  pub is : after ≡ Some (before ++ take count (result_text (selected_names c.query) rows))
+  pub head : HasEnded r c.limit ⊎ (count ≤ length (head_text (selected_names c.query)))
+  pub whole : Holds ((row class).is_whole) (count ≡ length (result_text (selected_names c.query) rows))
+
+-- the same, of an output that says what it holds
+abbrev pub Written : Command → Class → Option (List ℕ) → Option (List ℕ) → Record → Type 0
+Written c class old new r = (before : List ℕ) → old ≡ Some before → Wrote c class r before new
 
 -- ---- the web
 
@@ -94,17 +123,99 @@ pub record IsBeyond (out : Link → Option Outcome) (r : Record) (seeds : List T
   pub reachable : (u : Text) → IsIn links u → IsReachable (HasOutcome out) (Unreached r.entries) seeds rule u
   pub more : limit < length links
 
--- the record is faithful to the web, and no link in it is unreachable; where nothing is queued the
--- links looked up are exactly the reachable ones, which are then no more than the limit; and where the
--- limit is reached and a link is queued they are more
-pub record IsOfWeb (c : Command) (web : Web) (r : Record) : Type 0 where
-  pub faithful : IsFaithful (outcome_of web body_limit) r
-  pub none_unreached : (u : Text) → Unreached r.entries u → ⊥
-  pub exactly : r.queued ≡ [] → LooksUpReachable (outcome_of web body_limit) r (seeds_of c) (rule_of c)
-  pub within : r.queued ≡ [] → IsBeyond (outcome_of web body_limit) r (seeds_of c) (rule_of c) c.limit → ⊥
-  pub beyond : r.queued ≢ [] → length r.entries ≡ c.limit → IsBeyond (outcome_of web body_limit) r (seeds_of c) (rule_of c) c.limit
+-- each entry says what the web answers for its link; where nothing is queued the links looked up are exactly the reachable ones, which are no
+-- more than the limit; and where the limit is reached and a link is queued they are more
+pub record IsOfWeb (c : Command) (web : ToldWeb) (r : Record) : Type 0 where
+  pub faithful : IsFaithful (outcome_of web c.body) r
+  pub exactly : r.queued ≡ [] → LooksUpReachable (outcome_of web c.body) r (seeds_of c) (rule_of c)
+  pub within : r.queued ≡ [] → IsBeyond (outcome_of web c.body) r (seeds_of c) (rule_of c) c.limit → ⊥
+  pub beyond : r.queued ≢ [] → length r.entries ≡ c.limit → IsBeyond (outcome_of web c.body) r (seeds_of c) (rule_of c) c.limit
 
--- the same, where there is a record
-abbrev pub FitsWeb : Command → Web → Option Record → Type 0
-FitsWeb c web (Some r) = IsOfWeb c web r
-FitsWeb c web None = Unit {0}
+-- the text is of the query of a command, and the record is of a run of it over the web that is meant
+pub record RanOver (a : Arguments) (IsMeant : ToldWeb → Type 0) (r : Record) : Type 0 where
+  pub command : Command
+  pub asked : IsCommandOf a command
+  pub web : ToldWeb
+  pub meant : IsMeant web
+  pub of_web : IsOfWeb command web r
+
+-- the bytes are a site, and the web is that of the site
+pub record IsWebOf (bytes : List ℕ) (web : ToldWeb) : Type 0 where
+  pub site : List Entry
+  pub text : SiteText site bytes
+  pub is : web ≡ heard_at (web_of_site site)
+
+-- no link of the record is unreachable
+abbrev pub NoneUnreached : Record → Type 0
+NoneUnreached r = (u : Text) → Unreached r.entries u → ⊥
+
+-- ---- what was read
+
+-- what is refused, and where; `ended` is that the input was read to its End
+abbrev pub Refusal : Arguments → Status → List ℕ → Type 0 → Type 0
+Refusal a (Query at why) bytes ended = ended × ((site : List Entry) × SiteText site bytes) × IsRefused a.query at why
+Refusal a (Site at) bytes ended = SiteBad bytes at × (ended ⊎ (length bytes ≡ site_limit + 1))
+Refusal a NotBuilt bytes ended = ⊥
+Refusal a status bytes ended = Unit {0}
+
+-- these bytes were read: all where there is a record, which is of a run over their site
+pub record InputRead (a : Arguments) (status : Status) (trace : Option Record) (bytes : List ℕ) (ended : Type 0) : Type 0 where
+  pub run : IfSome trace (λ r. ended × RanOver a (IsWebOf bytes) r × NoneUnreached r)
+  pub refusal : Refusal a status bytes ended
+
+-- what an input or an output shows of itself: the bytes left in it or those that it holds, where it says so, and how often it failed
+pub record Shows (P : Type 0) : Type 0 where
+  pub bytes : P → Option (List ℕ)
+  pub faults : P → ℕ
+
+-- the input was read to its End in this call
+abbrev pub ReadToEnd : {I : Type 0} → Shows I → (I → ℕ) → I → I → Type 0
+ReadToEnd i ends old new = Rose (ends old) (ends new) × IsAtEnd (i.bytes new)
+
+-- where the words are not of the built form, or a seed has no link, nothing is read
+pub record HasRead {I : Type 0} (i : Shows I) (ends : I → ℕ) (asked : Option Arguments) (old new : I) (status : Status) (trace : Option Record) : Type 0 where
+  pub words : asked ≡ None → ((status ≡ NotBuilt) ⊎ (status ≡ Memory)) × (trace ≡ None) × (new ≡ old)
+  pub input : (a : Arguments) → asked ≡ Some a → (bytes : List ℕ) × (i.bytes old ≡ prepend_known bytes (i.bytes new)) × InputRead a status trace bytes (ReadToEnd i ends old new)
+  pub input_faults : CountsFaults (input_fails status) (i.faults old) (i.faults new)
+
+-- ---- all of it
+
+-- what stands behind a status: the record, what was written, and what was read, of which `Read` says all
+pub record StatusEvidence {S : Type 0} (o : Shows S) (asks : Command → Type 0) (Read : Status → Option Record → Type 0) (trace : Option Record) (old new : S) (status : Status) : Type 0 where
+  pub recorded : StatusMatchesRecord status trace
+  pub traversed : (c : Command) → asks c → IfSome trace (Traversed c (class_of status))
+  pub written : (c : Command) → asks c → IfSome trace (Written c (class_of status) (o.bytes old) (o.bytes new))
+  pub untouched : trace ≡ None → new ≡ old
+  pub output_faults : CountsFaults (output_fails status) (o.faults old) (o.faults new)
+  pub read : Read status trace
+
+-- memory ran out while the text of this status was written, of which a prefix stands
+pub record ReceivedInstead (evidence : Status → Type 0) (trace : Option Record) (old new : Option (List ℕ)) : Type 0 where
+  pub status : Status
+  pub ran : class_of status ≢ NoMemory
+  pub reported : class_of status ≢ Unreported
+  pub shown : evidence status
+  pub begun : ReceivedPrefix status trace old new
+
+-- what the report received: the text of the status, or of the one in whose place it stands; `failed` is that the report failed
+abbrev pub Reported : Class → (Status → Type 0) → Status → Option Record → Option (List ℕ) → Option (List ℕ) → Type 0 → Type 0
+Reported Ended evidence status trace old new failed = Received status trace old new
+Reported Halted evidence status trace old new failed = Received status trace old new ⊎ (failed × ReceivedPrefix status trace old new)
+Reported Refused evidence status trace old new failed = Received status trace old new ⊎ (failed × ReceivedPrefix status trace old new)
+Reported NoMemory evidence status trace old new failed = GrewByPrefix old new memory_line ⊎ ReceivedInstead evidence trace old new
+Reported Unreported evidence status trace old new failed = IfSome trace (λ r. ReceivedPrefix (ended_status r) trace old new)
+
+-- it came to its end and was reported, or memory ran out
+abbrev pub RanToEnd : Status → Type 0
+RanToEnd status = (class_of status ≡ Ended) ⊎ (class_of status ≡ NoMemory)
+
+-- all that `answer_alone` promises. Over an input that is known to be a site, and without faults, the run of a query comes to its end (`complete`);
+-- over such an input, and without a fault of it, a query that is refused is answered so, at the place of its first fault (`refused`)
+pub record Promised {I S R : Type 0} (i : Shows I) (ends : I → ℕ) (o : Shows S) (p : Shows R) (asked : Option Arguments) (status : Status) (trace : Option Record) (input_old input_new : I) (out_old out_new : S) (report_old report_new : R) : Type 0 where
+  pub evidence : StatusEvidence o (Asks asked) (HasRead i ends asked input_old input_new) trace out_old out_new status
+  pub report : Reported (class_of status) (StatusEvidence o (Asks asked) (HasRead i ends asked input_old input_new) trace out_old out_new) status trace (p.bytes report_old) (p.bytes report_new) (Rose (p.faults report_old) (p.faults report_new))
+  pub report_faults : CountsFaults ((row (class_of status)).report_fails) (p.faults report_old) (p.faults report_new)
+  pub complete : (c : Command) → Asks asked c → (bytes : List ℕ) (site : List Entry) → i.bytes input_old ≡ Some bytes → SiteText site bytes → (Rose (i.faults input_old) (i.faults input_new) → ⊥)
+      → (Rose (o.faults out_old) (o.faults out_new) → ⊥) → (Rose (p.faults report_old) (p.faults report_new) → ⊥) → RanToEnd status
+  pub refused : (a : Arguments) → asked ≡ Some a → (at : ℕ) (why : QueryWhy) → IsRefused a.query at why → (bytes : List ℕ) (site : List Entry) → i.bytes input_old ≡ Some bytes → SiteText site bytes
+      → (Rose (i.faults input_old) (i.faults input_new) → ⊥) → (status ≡ Query at why) ⊎ (class_of status ≡ NoMemory)

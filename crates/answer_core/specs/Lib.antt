@@ -1,9 +1,7 @@
 pub mod Codes
 pub mod Command
 pub mod Headline
-pub mod Input
 pub mod Queries
 pub mod Reported
 pub mod Running
-pub mod Shown
 pub mod Words

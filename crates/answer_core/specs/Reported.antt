@@ -1,9 +1,9 @@
 -- What the report receives (docs/FORMATS.md, "Report").
-use Rattle.std.specs.Prelude.{ℕ, ◌≡◌, ◌≢◌, ◌≤◌, ◌⊎◌, List, ◌++◌, Option, Some, None, length, take, codes, decimal}
+use Rattle.std.specs.Prelude.{ℕ, ◌≡◌, ◌≤◌, List, ◌++◌, Option, Some, None, length, take, codes, decimal}
 use Rattle.std.specs.Io.KnownBytes.{append_known}
-use Rattle.reach_terms.specs.declared.record.Record.{Record}
+use Rattle.reachability.specs.declared.record.Record.{Record}
 use Rattle.run_report.specs.Report.{IsReport}
-use Rattle.answer_core.specs.Codes.{code_of, ended_status, Fits}
+use Rattle.answer_core.specs.Codes.{code_of}
 use Rattle.answer_core.specs.declared.status.QueryWhy.{QueryWhy}
 use Rattle.answer_core.specs.declared.status.QueryWhy.TheVariants as why
 use Rattle.answer_core.specs.declared.status.Status.{Status}
@@ -54,45 +54,10 @@ IsTextOf status None text = IsLineOf status text
 abbrev pub GrewByPrefix : Option (List ℕ) → Option (List ℕ) → List ℕ → Type 0
 GrewByPrefix old new text = (n : ℕ) × (n ≤ length text) × (new ≡ append_known old (take n text))
 
--- the whole text of the status was written
-abbrev pub Told : Status → Option Record → Option (List ℕ) → Option (List ℕ) → Type 0
-Told status trace old new = (text : List ℕ) × IsTextOf status trace text × (new ≡ append_known old text)
+-- the whole text of the status was received
+abbrev pub Received : Status → Option Record → Option (List ℕ) → Option (List ℕ) → Type 0
+Received status trace old new = (text : List ℕ) × IsTextOf status trace text × (new ≡ append_known old text)
 
--- a prefix of it was written
-abbrev pub ToldPrefix : Status → Option Record → Option (List ℕ) → Option (List ℕ) → Type 0
-ToldPrefix status trace old new = (text : List ℕ) × IsTextOf status trace text × GrewByPrefix old new text
-
--- the whole text, or a prefix of it where writing it failed
-abbrev pub ToldOrFailed : Status → Option Record → Option (List ℕ) → Option (List ℕ) → Type 0 → Type 0
-ToldOrFailed status trace old new failed = Told status trace old new ⊎ (failed × ToldPrefix status trace old new)
-
--- a prefix of the text of the status that the report's fault replaced
-abbrev pub ToldReplaced : Option Record → Option (List ℕ) → Option (List ℕ) → Type 0
-ToldReplaced (Some r) old new = ToldPrefix (ended_status r) (Some r) old new
-ToldReplaced None old new = ⊥
-
--- a prefix of the text that would have come: memory was wanted while it was written. The status that it
--- tells is shown, as each status is
-pub record ToldInstead (shown : Status → Type 0) (trace : Option Record) (old new : Option (List ℕ)) : Type 0 where
-  pub status : Status
-  pub other : status ≢ Memory
-  pub shows : shown status
-  pub fits : Fits status trace
-  pub told : ToldPrefix status trace old new
-
--- a prefix of the line for want of memory, or of the text that would have come
-abbrev pub ToldMemory : (Status → Type 0) → Option Record → Option (List ℕ) → Option (List ℕ) → Type 0
-ToldMemory shown trace old new = GrewByPrefix old new memory_line ⊎ ToldInstead shown trace old new
-
--- by the status: `shown` says what shows a status that would have come, and `failed` that the report's faults rose
-abbrev pub Reported : (Status → Type 0) → Status → Option Record → Option (List ℕ) → Option (List ℕ) → Type 0 → Type 0
-Reported shown Ok trace old new failed = Told Ok trace old new
-Reported shown Partial trace old new failed = Told Partial trace old new
-Reported shown Limit trace old new failed = Told Limit trace old new
-Reported shown (Query at reason) trace old new failed = ToldOrFailed (Query at reason) trace old new failed
-Reported shown (Site at) trace old new failed = ToldOrFailed (Site at) trace old new failed
-Reported shown Input trace old new failed = ToldOrFailed Input trace old new failed
-Reported shown Output trace old new failed = ToldOrFailed Output trace old new failed
-Reported shown Memory trace old new failed = ToldMemory shown trace old new
-Reported shown Report trace old new failed = failed × ToldReplaced trace old new
-Reported shown NotBuilt trace old new failed = ToldOrFailed NotBuilt trace old new failed
+-- a prefix of it was
+abbrev pub ReceivedPrefix : Status → Option Record → Option (List ℕ) → Option (List ℕ) → Type 0
+ReceivedPrefix status trace old new = (text : List ℕ) × IsTextOf status trace text × GrewByPrefix old new text

@@ -1,8 +1,10 @@
 -- What the parts of the top call tell each other: a run before its report, and how the report turns its status.
-use Rattle.std.specs.Prelude.{ℕ, ◌≡◌, ◌⊎◌, ◌≢◌, List, Option, Some, None}
+use Rattle.std.specs.Prelude.{ℕ, ◌≡◌, ◌⊎◌, ◌≢◌, ◌≤◌, List, Option, Some, None, IfSome, length}
 use Rattle.std.specs.Io.KnownBytes.{append_known}
-use Rattle.reach_terms.specs.declared.record.Record.{Record}
-use Rattle.site_core.specs.Text.{Entry}
+use Rattle.outer_ports.specs.Causes.{Rose}
+use Rattle.reachability.specs.declared.record.Record.{Record}
+use Rattle.site_core.specs.Text.{Entry, SiteText, site_limit}
+use Rattle.reachability.specs.Web.{heard_at}
 use Rattle.web_port.specs.SiteWeb.{site_fetch, web_of_site}
 use Rattle.traverse_core.specs.declared.alone.Ran.{Ran}
 use Rattle.traverse_core.specs.declared.alone.Ran.TheVariants as ran
@@ -10,22 +12,32 @@ use Rattle.traverse_core.specs.Run.{Run}
 use Rattle.sparql_parser.specs.Answer.{most_bytes}
 use Rattle.sparql_parser.specs.declared.fault.QueryFault.{QueryFault}
 use Rattle.sparql_parser.specs.declared.fault.QueryFault.TheVariants as faults
-use Rattle.answer_core.specs.Codes.{HasEnd, ended_status}
+use Rattle.answer_core.specs.Codes.{ended_status}
 use Rattle.answer_core.specs.declared.command.Command.{Command}
-use Rattle.answer_core.specs.Headline.{FitsWeb, body_limit}
+use Rattle.answer_core.specs.Headline.{Class, Duty, row, Ended, Halted, Refused, NoMemory, Unreported, class_of, Shows, IsOfWeb, NoneUnreached, InputRead}
 use Rattle.answer_core.specs.Reported.{GrewByPrefix}
+use Rattle.answer_core.specs.Words.{Arguments}
 use Rattle.answer_core.specs.declared.status.QueryWhy.TheVariants as why
 use Rattle.answer_core.specs.declared.status.Status.{Status}
-use Rattle.answer_core.specs.declared.status.Status.TheVariants.{Ok, Partial, Limit, Query, Site, Input, Output, Memory, Report, NotBuilt}
+use Rattle.answer_core.specs.declared.status.Status.TheVariants.{Query, Output, Memory, Report, Input}
+
+-- columns of the table of classes
+abbrev pub has_record : Class → Duty
+has_record k = (row k).has_record
+
+abbrev pub is_whole : Class → Duty
+is_whole k = (row k).is_whole
+
+abbrev pub report_fails : Class → Duty
+report_fails k = (row k).report_fails
 
 -- the command that a run is of
 abbrev pub command_of : Run → Command
-command_of run = record { query = run.query; seeds = run.seeds; criterion = run.criterion; limit = run.limit }
+command_of run = record { query = run.query; seeds = run.seeds; criterion = run.criterion; limit = run.limit; body = run.body; tries = run.fetch.tries }
 
 -- the run's look-ups are those in a site
-pub record IsOverSite (run : Run) (site : List Entry) : Type 0 where
-  pub fetch : run.fetch ≡ site_fetch site 3
-  pub body : run.body ≡ body_limit
+abbrev pub IsOverSite : Run → List Entry → Type 0
+IsOverSite run site = run.fetch ≡ site_fetch site run.fetch.tries
 
 -- the status of a run by how it ended
 abbrev pub ran_status : Ran → Record → Status
@@ -33,23 +45,57 @@ ran_status ran.Done r = ended_status r
 ran_status ran.Output r = Output
 ran_status ran.Memory r = Memory
 
+-- ---- an output, by what it shows alone
+
+pub record Writing : Type 0 where
+  pub bytes : Option (List ℕ)
+  pub faults : ℕ
+
+abbrev pub writing : Shows Writing
+writing = record { bytes = λ w. w.bytes; faults = λ w. w.faults }
+
+-- ---- what is known of a status before the report, by how much was read
+
+abbrev pub BeforeReport : (Status → Option Record → Type 0) → Status → Option Record → Type 0
+BeforeReport read status trace = (class_of status ≢ Unreported) × read status trace
+
+-- the record is of a run of the command over the site
+abbrev pub IsOfSite : Command → List Entry → Record → Type 0
+IsOfSite c site r = IsOfWeb c (heard_at (web_of_site site)) r × NoneUnreached r
+
+-- there is a record, and it is of the site whose look-ups they are
+abbrev pub RunRead : Run → Status → Option Record → Type 0
+RunRead run status trace = (trace ≢ None) × ((site : List Entry) → IsOverSite run site → IfSome trace (IsOfSite (command_of run) site))
+
+-- there is a record, or memory ran out
+abbrev pub CommandRead : Command → List Entry → Status → Option Record → Type 0
+CommandRead c site status trace = (trace ≡ None → status ≡ Memory) × IfSome trace (IsOfSite c site)
+
+-- the bytes of the site, whichever they are
+abbrev pub SiteRead : Arguments → List Entry → Status → Option Record → Type 0
+SiteRead a site status trace = (status ≢ Input) × ((bytes : List ℕ) → SiteText site bytes → InputRead a status trace bytes (length bytes ≤ site_limit))
+
+abbrev pub BytesRead : Arguments → List ℕ → Status → Option Record → Type 0
+BytesRead a bytes status trace = (status ≢ Input) × InputRead a status trace bytes (length bytes ≤ site_limit)
+
+-- ---- the report
+
 -- the status in whose place a fault of the report stands, and otherwise the same
+abbrev pub failed_by : Class → Status → Status
+failed_by Ended status = Report
+failed_by Halted status = status
+failed_by Refused status = status
+failed_by NoMemory status = status
+failed_by Unreported status = status
+
 abbrev pub failed_report : Status → Status
-failed_report Ok = Report
-failed_report Partial = Report
-failed_report Limit = Report
-failed_report (Query at why) = Query at why
-failed_report (Site at) = Site at
-failed_report Input = Input
-failed_report Output = Output
-failed_report Memory = Memory
-failed_report Report = Report
-failed_report NotBuilt = NotBuilt
+failed_report status = failed_by (class_of status) status
 
 -- the report was given the text whole, or a prefix of it where it failed or wanted memory; and the status then
-abbrev pub WroteReport : Status → Status → List ℕ → Option (List ℕ) → Option (List ℕ) → Type 0 → Type 0
-WroteReport status now text old new failed =
-    ((now ≡ status) × (new ≡ append_known old text)) ⊎ (((now ≡ failed_report status) × failed × GrewByPrefix old new text) ⊎ ((now ≡ Memory) × GrewByPrefix old new text))
+abbrev pub WroteReport : Status → Status → List ℕ → Option (List ℕ) → Option (List ℕ) → ℕ → ℕ → Type 0
+WroteReport status now text old new before after =
+    ((now ≡ status) × (after ≡ before) × (new ≡ append_known old text))
+    ⊎ (((now ≡ failed_report status) × (Rose before after × (before ≤ after)) × GrewByPrefix old new text) ⊎ ((now ≡ Memory) × (before ≤ after) × GrewByPrefix old new text))
 
 -- the status of a query's fault
 abbrev pub fault_status : QueryFault → Status
@@ -64,5 +110,5 @@ abbrev pub Is : Status → Status → Type 0
 Is status s = s ≡ status
 
 -- the status after the report: the same, or a fault of the report in its place, or want of memory
-abbrev pub Turned : Status → Status → Type 0
-Turned status now = (now ≡ status) ⊎ ((HasEnd status × (now ≡ Report)) ⊎ (now ≡ Memory))
+abbrev pub StatusAfterReport : Status → Status → Type 0
+StatusAfterReport status now = (now ≡ status) ⊎ (((class_of status ≡ Ended) × (now ≡ Report)) ⊎ (now ≡ Memory))

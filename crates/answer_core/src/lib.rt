@@ -3,9 +3,9 @@
 //!
 //! Promise: `answer_alone` follows links over the site that the input holds, and writes exactly the
 //! answers over the merged graph of what it looked up; each other status but want of memory has its
-//! one cause. What is asked for is in `specs/Words.antt`, `specs/Command.antt` and `specs/Queries.antt`; the
-//! whole statement in `specs/Headline.antt`, `specs/Codes.antt`, `specs/Input.antt`, `specs/Reported.antt`
-//! and `specs/Shown.antt`. `Status::code` is the exit code of each status.
+//! one cause. `specs/Headline.antt` says it on one page (`Promised`); what the words ask for is in
+//! `specs/Words.antt` and `specs/Command.antt`, the texts of the report in `specs/Reported.antt`, and
+//! the codes in `specs/Codes.antt`. `Status::code` is the exit code of each status.
 //! Not here: the real streams, which the program `ltq` makes.
 #![tactic(auto)]
 

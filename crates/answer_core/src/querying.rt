@@ -1,21 +1,19 @@
 //! The query of the words, and the run that it asks for.
-ghost use Rattle.std.specs.Prelude.{◌≡◌, ◌≢◌, ◌≤◌, ℕ, List, None, length};
+ghost use Rattle.std.specs.Prelude.{◌≡◌, ◌<◌, Some};
 ghost use Rattle.link_uri.specs.Links.{AreLinks};
-ghost use Rattle.outer_ports.specs.Causes.{Rose};
-ghost use Rattle.site_core.specs.Text.{SiteText, site_limit};
-ghost use Rattle.answer_core.specs.Codes.{Fits};
-ghost use Rattle.answer_core.specs.Command as spec;
-ghost use Rattle.answer_core.specs.Command.{IsCommandOf, view};
-ghost use Rattle.answer_core.specs.declared.command.Command.{Command as Run};
-ghost use Rattle.answer_core.specs.Headline.{Traversed, Written};
-ghost use Rattle.answer_core.specs.Input.{Saw};
-ghost use Rattle.answer_core.specs.Running.{fault_status};
+ghost use Rattle.answer_core.specs.Command.{IsCommandOf, command_with, links_of};
+ghost use Rattle.answer_core.specs.Headline.{StatusEvidence};
+ghost use Rattle.answer_core.specs.Running.{BeforeReport, SiteRead, fault_status};
+ghost use Rattle.answer_core.specs.Words.{view};
 
-use crate::command::{Asked, Command};
+use crate::command::Command;
 use crate::running::{Answer, run_command, without_record};
+use crate::words::Arguments;
 use crate::{QueryWhy, Status};
 use algebra_core::Query;
+use link_uri::Link;
 use outer_ports::Sink;
+use rdf_terms::Seq;
 use site_core::Site;
 use sparql_parser::{MOST_BYTES, QueryFault, read_query};
 use std::alloc::Global;
@@ -44,37 +42,35 @@ fn status_of(fault: QueryFault) -> Status
     }
 }
 
-fn with_query(asked: Asked<'_>, query: Query) -> Command
-    ensures { result ≡ spec.with_query (view asked.entry) query }
+fn with_query(arguments: Arguments<'_>, seeds: Seq<Link>, query: Query) -> Command
+    ensures { result ≡ command_with (view arguments.entry) seeds query }
 {
     Command {
         query,
-        seeds: asked.seeds,
-        criterion: asked.criterion,
-        limit: asked.limit,
+        seeds,
+        criterion: arguments.criterion,
+        limit: arguments.limit,
+        body: arguments.body,
+        tries: arguments.tries,
     }
 }
 
 /// Reads the query, and runs it over the site.
 pub(crate) fn answer_query<S: Sink>(
     alloc: Global,
-    asked: Asked<'_>,
+    arguments: Arguments<'_>,
+    seeds: Seq<Link>,
     site: Site,
     out: S,
 ) -> Answer<S>
-    requires own { AreLinks asked.seeds }
-    ensures traversed { (c : Run) → IsCommandOf (view asked.entry) c → Traversed c result.status result.trace }
-    ensures written { (c : Run) → IsCommandOf (view asked.entry) c → Written c result.status result.trace (S.content out) (S.content result.out) }
-    ensures fits { Fits result.status result.trace }
-    ensures output { result.status ≡ Status.Output → Rose (S.faults out) (S.faults result.out) }
-    ensures calm { result.status ≢ Status.Output → S.faults result.out ≡ S.faults out }
-    ensures later { S.faults out ≤ S.faults result.out }
-    ensures untouched { result.trace ≡ None → result.out ≡ out }
-    ensures saw { (bytes : List ℕ) → SiteText site bytes → Saw (view asked.entry) result.status result.trace bytes (length bytes ≤ site_limit) }
-    ensures input { result.status ≡ Status.Input → ⊥ }
+    requires valid_links { AreLinks seeds }
+    requires links { links_of (view arguments).seeds ≡ Some seeds }
+    requires tries { 0 < arguments.tries }
+    ensures { StatusEvidence (record { bytes = S.content; faults = S.faults }) (IsCommandOf (view arguments.entry))
+        (BeforeReport (SiteRead (view arguments.entry) site)) result.trace out result.out result.status }
 {
-    match read_query(alloc, asked.query) {
-        Ok(query) => run_command(alloc, with_query(asked, query), site, out),
+    match read_query(alloc, arguments.query) {
+        Ok(query) => run_command(alloc, with_query(arguments, seeds, query), site, out),
         Err(fault) => without_record(status_of(fault), out),
     }
 }

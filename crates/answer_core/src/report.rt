@@ -1,16 +1,16 @@
-ghost use Rattle.std.specs.Prelude.{◌≡◌, ◌≢◌, ◌≤◌, IfOk, None, codes};
+//! The report of a run.
+ghost use Rattle.std.specs.Prelude.{◌≡◌, ◌≢◌, IfOk, None, codes};
 ghost use Rattle.outer_ports.specs.Causes.{Rose};
-ghost use Rattle.answer_core.specs.Codes.{Fits, IsReported};
-ghost use Rattle.answer_core.specs.Headline.{HasNoRecord};
-ghost use Rattle.answer_core.specs.Reported.{IsLineOf, IsTextOf, Reported};
-ghost use Rattle.answer_core.specs.Running.{Turned, WroteReport};
+ghost use Rattle.answer_core.specs.Headline.{CountsFaults, NoMemory, Reported, StatusMatchesRecord, Unreported, class_of};
+ghost use Rattle.answer_core.specs.Reported.{IsLineOf, IsTextOf};
+ghost use Rattle.answer_core.specs.Running.{Is, StatusAfterReport, WroteReport, report_fails};
 ghost use Rattle.answer_core.specs.Reported as spec;
 ghost use Rattle.answer_core.specs.Running as running;
 
 use crate::{QueryWhy, Status};
 use outer_ports::{Sink, SinkFault, write_all};
 use rdf_terms::{ByteBuf, Memory};
-use reach_terms::Record;
+use reachability::Record;
 use run_report::record_report;
 use std::alloc::Global;
 
@@ -51,7 +51,7 @@ fn query_line(alloc: Global, at: usize, why: QueryWhy) -> Result<ByteBuf, Memory
 
 // The report of a run without a record.
 fn line_of(alloc: Global, status: Status) -> Result<ByteBuf, Memory>
-    requires { HasNoRecord status }
+    requires { StatusMatchesRecord status None }
     ensures { IfOk result (IsLineOf status) }
 {
     match status {
@@ -66,7 +66,7 @@ fn line_of(alloc: Global, status: Status) -> Result<ByteBuf, Memory>
 }
 
 fn text_of(alloc: Global, status: Status, trace: &Option<Record>) -> Result<ByteBuf, Memory>
-    requires { Fits status trace.now }
+    requires { StatusMatchesRecord status trace.now }
     ensures { IfOk result (IsTextOf status trace.now) }
 {
     match trace {
@@ -85,11 +85,9 @@ fn failed_report(status: Status) -> Status
     }
 }
 
-fn write_report<R: Sink>(status: Status, text: &[u8], report: &mut R) -> Status
-    ensures wrote { WroteReport status result text.now (R.content report.old) (R.content report.new)
-        (Rose (R.faults report.old) (R.faults report.new)) }
-    ensures calm { IsReported result → R.faults report.new ≡ R.faults report.old }
-    ensures later { R.faults report.old ≤ R.faults report.new }
+fn write_text<R: Sink>(status: Status, text: &[u8], report: &mut R) -> Status
+    ensures { WroteReport status result text.now (R.content report.old) (R.content report.new)
+        (R.faults report.old) (R.faults report.new) }
 {
     match write_all(report, text) {
         Ok(()) => status,
@@ -98,44 +96,43 @@ fn write_report<R: Sink>(status: Status, text: &[u8], report: &mut R) -> Status
     }
 }
 
-fn report_text<R: Sink>(
+// Writes the text of a status other than want of memory, or the line for that where none is left for the text.
+fn write_status<R: Sink>(
     alloc: Global,
     status: Status,
     trace: &Option<Record>,
     report: &mut R,
 ) -> Status
-    requires other { status ≢ Status.Memory }
-    requires fits { Fits status trace.now }
-    ensures turned { Turned status result }
-    ensures reported { Reported (running.Is status) result trace.now (R.content report.old) (R.content report.new)
+    requires other { class_of status ≢ NoMemory }
+    requires unreported { class_of status ≢ Unreported }
+    requires matches { StatusMatchesRecord status trace.now }
+    ensures after { StatusAfterReport status result }
+    ensures reported { Reported (class_of result) (Is status) result trace.now (R.content report.old) (R.content report.new)
         (Rose (R.faults report.old) (R.faults report.new)) }
-    ensures cause { result ≡ Status.Report → Rose (R.faults report.old) (R.faults report.new) }
-    ensures calm { IsReported result → R.faults report.new ≡ R.faults report.old }
-    ensures later { R.faults report.old ≤ R.faults report.new }
+    ensures faults { CountsFaults (report_fails (class_of result)) (R.faults report.old) (R.faults report.new) }
 {
     match text_of(alloc, status, trace) {
-        Ok(text) => write_report(status, text.as_slice(), report),
-        Err(_) => write_report(Status::Memory, MEMORY_LINE, report),
+        Ok(text) => write_text(status, text.as_slice(), report),
+        Err(_) => write_text(Status::Memory, MEMORY_LINE, report),
     }
 }
 
-/// Writes the report of a status, and tells what the status is then.
-pub(crate) fn tell<R: Sink>(
+/// Writes the report of a status, and answers what the status is then.
+pub(crate) fn write_report<R: Sink>(
     alloc: Global,
     status: Status,
     trace: &Option<Record>,
     report: &mut R,
 ) -> Status
-    requires fits { Fits status trace.now }
-    ensures turned { Turned status result }
-    ensures reported { Reported (running.Is status) result trace.now (R.content report.old) (R.content report.new)
+    requires unreported { class_of status ≢ Unreported }
+    requires matches { StatusMatchesRecord status trace.now }
+    ensures after { StatusAfterReport status result }
+    ensures reported { Reported (class_of result) (Is status) result trace.now (R.content report.old) (R.content report.new)
         (Rose (R.faults report.old) (R.faults report.new)) }
-    ensures cause { result ≡ Status.Report → Rose (R.faults report.old) (R.faults report.new) }
-    ensures calm { IsReported result → R.faults report.new ≡ R.faults report.old }
-    ensures later { R.faults report.old ≤ R.faults report.new }
+    ensures faults { CountsFaults (report_fails (class_of result)) (R.faults report.old) (R.faults report.new) }
 {
     match status {
-        Status::Memory => write_report(Status::Memory, MEMORY_LINE, report),
-        _ => report_text(alloc, status, trace, report),
+        Status::Memory => write_text(Status::Memory, MEMORY_LINE, report),
+        _ => write_status(alloc, status, trace, report),
     }
 }

@@ -1,21 +1,18 @@
 //! A run over a site: look-ups, answers, and how it ended.
-ghost use Rattle.std.specs.Prelude.{◌≡◌, ◌≢◌, ◌≤◌, [], None, IsTrue, IsSome, List};
-ghost use Rattle.outer_ports.specs.Causes.{Rose};
+ghost use Rattle.std.specs.Prelude.{◌≡◌, ◌<◌, [], None, IsTrue};
 ghost use Rattle.link_uri.specs.Links.{AreLinks};
 ghost use Rattle.link_queue.specs.Table.{flying};
-ghost use Rattle.site_core.specs.Text.{Entry};
-ghost use Rattle.web_port.specs.SiteWeb.{web_of_site};
+ghost use Rattle.web_port.specs.SiteWeb.{site_fetch};
 ghost use Rattle.traverse_core.specs.State.{is_running};
 ghost use Rattle.traverse_core.specs.Alone.{Serves};
-ghost use Rattle.answer_core.specs.Codes.{Fits};
-ghost use Rattle.answer_core.specs.Headline.{Traversed, Written, FitsWeb};
-ghost use Rattle.answer_core.specs.Running.{command_of, IsOverSite, ran_status};
+ghost use Rattle.answer_core.specs.Headline.{StatusEvidence};
+ghost use Rattle.answer_core.specs.Running.{BeforeReport, CommandRead, RunRead, command_of, ran_status, writing};
 
 use crate::Status;
 use crate::command::Command;
 use crate::status::ended_status;
 use outer_ports::Sink;
-use reach_terms::Record;
+use reachability::Record;
 use site_core::Site;
 use std::alloc::Global;
 use std::marker::Brand;
@@ -31,20 +28,15 @@ pub struct Answer<S> {
     pub out: S,
 }
 
-/// The most bytes of a body.
-const BODY_LIMIT: u64 = 1_048_576;
-
 const LANES: u16 = 8;
 
-const TRIES: u8 = 3;
-
-fn settings() -> FetchSettings
-    ensures { (result.lanes ≡ 8) × (result.tries ≡ 3) }
+fn settings(tries: u8, body: u64) -> FetchSettings
+    ensures { (result.lanes ≡ 8) × (result.tries ≡ tries) }
 {
     FetchSettings {
         lanes: LANES,
-        tries: TRIES,
-        body: BODY_LIMIT,
+        tries,
+        body,
         via: None,
     }
 }
@@ -70,24 +62,22 @@ fn status_of(ran: Ran, trace: &Record) -> Status
     }
 }
 
-fn run_to_end<J: Job, S: Sink, F: Fetcher>(run: Traversal<J, S>, fetcher: &mut F) -> Answer<S>
+fn run_to_end<J: Job, S: Sink, F: Fetcher>(
+    run: Traversal<J, S>,
+    fetcher: &mut F,
+    body: u64,
+) -> Answer<S>
     requires runs { IsTrue (is_running run) }
     requires landed { flying run.table ≡ 0 }
     requires idle { (F.port fetcher.old).flights ≡ [] }
     requires serves { Serves J.run (F.fetch fetcher.old) }
-    requires body { J.run.body ≡ 1048576 }
+    requires body { body ≡ J.run.body }
     requires faults { J.run.faults ≡ run.out.faults }
-    ensures told { IsSome result.trace }
-    ensures traversed { Traversed (command_of J.run) result.status result.trace }
-    ensures written { Written (command_of J.run) result.status result.trace J.run.content (S.content result.out) }
-    ensures web { (site : List Entry) → IsOverSite J.run site → FitsWeb (command_of J.run) (web_of_site site) result.trace }
-    ensures fits { Fits result.status result.trace }
-    ensures output { result.status ≡ Status.Output → Rose J.run.faults (S.faults result.out) }
-    ensures calm { result.status ≢ Status.Output → S.faults result.out ≡ J.run.faults }
-    ensures later { J.run.faults ≤ S.faults result.out }
+    ensures { StatusEvidence writing (λ c. c ≡ command_of J.run) (BeforeReport (RunRead J.run)) result.trace
+        (record { bytes = J.run.content; faults = J.run.faults }) (record { bytes = S.content result.out; faults = S.faults result.out }) result.status }
 {
     let mut run = run;
-    let ran = run.run_alone(fetcher, BODY_LIMIT);
+    let ran = run.run_alone(fetcher, body);
     let finished = run.finish();
     let status = status_of(ran, &finished.trace);
     Answer {
@@ -98,56 +88,49 @@ fn run_to_end<J: Job, S: Sink, F: Fetcher>(run: Traversal<J, S>, fetcher: &mut F
 }
 
 fn run_named<J: Job, S: Sink>(alloc: Global, command: Command, site: Site, out: S) -> Answer<S>
-    requires own { AreLinks command.seeds }
+    requires valid_links { AreLinks command.seeds }
+    requires tries { 0 < command.tries }
     requires command { command ≡ command_of J.run }
-    requires site { IsOverSite J.run site }
+    requires fetch { J.run.fetch ≡ site_fetch site command.tries }
     requires out { (S.content out ≡ J.run.content) × (S.faults out ≡ J.run.faults) }
-    ensures traversed { Traversed command result.status result.trace }
-    ensures written { Written command result.status result.trace (S.content out) (S.content result.out) }
-    ensures web { FitsWeb command (web_of_site site) result.trace }
-    ensures fits { Fits result.status result.trace }
-    ensures output { result.status ≡ Status.Output → Rose (S.faults out) (S.faults result.out) }
-    ensures calm { result.status ≢ Status.Output → S.faults result.out ≡ S.faults out }
-    ensures later { S.faults out ≤ S.faults result.out }
-    ensures none { result.trace ≡ None → result.status ≡ Status.Memory }
-    ensures untouched { result.trace ≡ None → result.out ≡ out }
+    ensures { StatusEvidence (record { bytes = S.content; faults = S.faults }) (λ c. c ≡ command)
+        (BeforeReport (CommandRead command site)) result.trace out result.out result.status }
 {
     let Ok(links) = SiteLinks::new(alloc, site) else {
         return without_record(Status::Memory, out);
     };
     let mut links = links;
-    let Ok(fetcher) = links.fetcher(&settings()) else {
-        return without_record(Status::Memory, out);
-    };
-    let mut fetcher = fetcher;
     let Command {
         query,
         seeds,
         criterion,
         limit,
+        body,
+        tries,
     } = command;
+    let Ok(fetcher) = links.fetcher(&settings(tries, body)) else {
+        return without_record(Status::Memory, out);
+    };
+    let mut fetcher = fetcher;
     match Traversal::<J, S>::open(alloc, query, seeds.into_vec(), criterion, limit, out) {
         Ok(run) => {
-            let answer = run_to_end(run, &mut fetcher);
+            let answer = run_to_end(run, &mut fetcher, body);
             links.retire(fetcher);
             answer
         }
-        Err(out) => without_record(Status::Memory, out),
+        Err(out) => {
+            links.retire(fetcher);
+            without_record(Status::Memory, out)
+        }
     }
 }
 
 /// Looks up links in the site and writes the answers.
 pub(crate) fn run_command<S: Sink>(alloc: Global, command: Command, site: Site, out: S) -> Answer<S>
-    requires own { AreLinks command.seeds }
-    ensures traversed { Traversed command result.status result.trace }
-    ensures written { Written command result.status result.trace (S.content out) (S.content result.out) }
-    ensures web { FitsWeb command (web_of_site site) result.trace }
-    ensures fits { Fits result.status result.trace }
-    ensures output { result.status ≡ Status.Output → Rose (S.faults out) (S.faults result.out) }
-    ensures calm { result.status ≢ Status.Output → S.faults result.out ≡ S.faults out }
-    ensures later { S.faults out ≤ S.faults result.out }
-    ensures none { result.trace ≡ None → result.status ≡ Status.Memory }
-    ensures untouched { result.trace ≡ None → result.out ≡ out }
+    requires valid_links { AreLinks command.seeds }
+    requires tries { 0 < command.tries }
+    ensures { StatusEvidence (record { bytes = S.content; faults = S.faults }) (λ c. c ≡ command)
+        (BeforeReport (CommandRead command site)) result.trace out result.out result.status }
 {
     run_named::<Brand, S>(alloc, command, site, out)
 }

@@ -1,7 +1,7 @@
 ghost use Rattle.std.specs.Prelude.{◌≡◌};
 ghost use Rattle.answer_core.specs.Codes.{code_of, ended_status};
 
-use reach_terms::Record;
+use reachability::Record;
 use run_report::has_failed;
 
 /// Why a query is refused (docs/FORMATS.md, "Queries").

@@ -1,20 +1,26 @@
-ghost use Rattle.std.specs.Prelude.{◌≡◌, map, string_bytes, option_map};
+ghost use Rattle.std.specs.Prelude.{◌≡◌, ◌<◌, IfSome, map, string_bytes, option_map};
 ghost use Rattle.answer_core.specs.Words as spec;
 
 use crate::limit::limit_of;
 use reach_criteria::Criterion;
 
-/// What the words give: the criterion, the most links to look up, and the texts of the query and
-/// of the seeds.
+/// What the words give: the texts of the query and of the seeds, the criterion, the most links to
+/// look up, the most bytes of a body, and how often a look-up is tried.
 #[derive(Clone, Copy, Drop)]
-pub(crate) struct Words<'a> {
-    pub criterion: Criterion,
-    pub limit: u64,
+pub(crate) struct Arguments<'a> {
     pub query: &'a str,
     pub seeds: &'a [String],
+    pub criterion: Criterion,
+    pub limit: u64,
+    pub body: u64,
+    pub tries: u8,
 }
 
 const DEFAULT_LIMIT: u64 = 500;
+
+const DEFAULT_BODY: u64 = 1_048_576;
+
+const DEFAULT_TRIES: u8 = 3;
 
 const MOST_SEEDS: usize = 1_000;
 
@@ -30,21 +36,24 @@ fn criterion_of(name: &str) -> Option<Criterion>
     }
 }
 
-fn words_of<'a>(
+fn arguments_with<'a>(
     criterion: Option<Criterion>,
     limit: Option<u64>,
     query: &'a str,
     seeds: &'a [String],
-) -> Option<Words<'a>>
-    ensures { option_map (λ w. record { criterion = w.criterion; limit = w.limit; query = w.query.now; seeds = map string_bytes w.seeds.now }) result
-        ≡ spec.given_parts criterion limit query.now (map string_bytes seeds.now) }
+) -> Option<Arguments<'a>>
+    ensures value { option_map spec.view result
+        ≡ spec.arguments_with criterion limit query.now (map string_bytes seeds.now) }
+    ensures tries { IfSome result (λ a. 0 < a.tries) }
 {
     match (criterion, limit) {
-        (Some(criterion), Some(limit)) => Some(Words {
-            criterion,
-            limit,
+        (Some(criterion), Some(limit)) => Some(Arguments {
             query,
             seeds,
+            criterion,
+            limit,
+            body: DEFAULT_BODY,
+            tries: DEFAULT_TRIES,
         }),
         _ => None,
     }
@@ -60,14 +69,15 @@ fn behind_limit(
     criterion: Option<Criterion>,
     limit: Option<u64>,
     words: &[String],
-) -> Option<Words<'_>>
-    ensures { option_map (λ w. record { criterion = w.criterion; limit = w.limit; query = w.query.now; seeds = map string_bytes w.seeds.now }) result
+) -> Option<Arguments<'_>>
+    ensures value { option_map spec.view result
         ≡ spec.behind_limit criterion limit (map string_bytes words.now) }
+    ensures tries { IfSome result (λ a. 0 < a.tries) }
 {
     match words {
         [workers, zero, query, seeds @ ..] => {
             if workers.as_str() == "--workers" && (zero.as_str() == "0" && are_counted(seeds)) {
-                words_of(criterion, limit, query.as_str(), seeds)
+                arguments_with(criterion, limit, query.as_str(), seeds)
             } else {
                 None
             }
@@ -76,9 +86,10 @@ fn behind_limit(
     }
 }
 
-fn behind_criterion(criterion: Option<Criterion>, words: &[String]) -> Option<Words<'_>>
-    ensures { option_map (λ w. record { criterion = w.criterion; limit = w.limit; query = w.query.now; seeds = map string_bytes w.seeds.now }) result
+fn behind_criterion(criterion: Option<Criterion>, words: &[String]) -> Option<Arguments<'_>>
+    ensures value { option_map spec.view result
         ≡ spec.behind_criterion criterion (map string_bytes words.now) }
+    ensures tries { IfSome result (λ a. 0 < a.tries) }
 {
     match words {
         [limit, number, rest @ ..] => {
@@ -94,9 +105,9 @@ fn behind_criterion(criterion: Option<Criterion>, words: &[String]) -> Option<Wo
 
 /// What the words `site --criterion all|none [--limit N] --workers 0 QUERY SEED..` give, or none
 /// for other words. No memory is taken.
-pub(crate) fn given(words: &[String]) -> Option<Words<'_>>
-    ensures { option_map (λ w. record { criterion = w.criterion; limit = w.limit; query = w.query.now; seeds = map string_bytes w.seeds.now }) result
-        ≡ spec.given_of (map string_bytes words.now) }
+pub(crate) fn arguments_of(words: &[String]) -> Option<Arguments<'_>>
+    ensures value { option_map spec.view result ≡ spec.arguments_of (map string_bytes words.now) }
+    ensures tries { IfSome result (λ a. 0 < a.tries) }
 {
     match words {
         [command, option, name, rest @ ..] => {

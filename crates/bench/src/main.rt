@@ -12,6 +12,7 @@ mod fault;
 mod input;
 mod lexing;
 mod measurements;
+mod messages;
 mod queries;
 mod reading;
 mod samples;

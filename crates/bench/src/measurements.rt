@@ -1,6 +1,8 @@
 //! The measurements by their words.
 use crate::fault::Fault;
-use crate::{documents, evaluation, expressions, lexing, queries, reading, settling, site};
+use crate::{
+    documents, evaluation, expressions, lexing, messages, queries, reading, settling, site,
+};
 use std::alloc::Global;
 use std::io::Read;
 
@@ -19,6 +21,7 @@ pub(crate) fn answer<R: Read + Drop>(
         "documents" => documents::answer(alloc, words, input),
         "queries" => queries::answer(alloc, words, input),
         "evaluation" => evaluation::answer(alloc, words, input),
+        "messages" => messages::answer(alloc, words, input),
         "settling" => settling::answer(alloc, words),
         _ => Err(Fault::Words),
     }

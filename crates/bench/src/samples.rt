@@ -21,7 +21,10 @@ const NAMES: &str = "SELECT ?n WHERE { ?s <http://v.test/name> ?n }";
 
 const KNOWN: &str = "SELECT ?b WHERE { ?a <http://v.test/knows> ?b }";
 
-const SAMPLES: [Sample; 15] = [
+const RESPONSE: &str =
+    "HTTP/1.1 200 OK\r\nContent-Type: text/turtle\r\nTransfer-Encoding: chunked\r\n\r\n3\r\nabc\r\n0\r\n\r\n";
+
+const SAMPLES: [Sample; 17] = [
     Sample("reading", &["std"], "a few bytes\n"),
     Sample("site", &["bytes"], SITE),
     Sample("site", &["read"], SITE),
@@ -35,6 +38,8 @@ const SAMPLES: [Sample; 15] = [
     Sample("documents", &["turtle"], "<a> <b> ("),
     Sample("queries", &["3"], NAMES),
     Sample("evaluation", &[KNOWN], PEOPLE),
+    Sample("messages", &["feed", "1", "2"], RESPONSE),
+    Sample("messages", &["copy", "1", "2"], RESPONSE),
     Sample("settling", &["make", "100", "10", "2"], ""),
     Sample("settling", &["settle", "100", "10", "2"], ""),
 ];

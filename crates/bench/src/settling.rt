@@ -2,7 +2,7 @@
 //! commands of the steps alone, `settle` has a traversal follow them. The second word is the number of links of one
 //! traversal; the third is how many new links a document names, until there are so many; the fourth is the number of
 //! traversals. The answer is how many commands were made, or how many links were settled.
-ghost use Rattle.std.specs.Prelude.{◌≡◌, ◌∷◌, [], None, Some, IfOk, IfSome, OnOk};
+ghost use Rattle.std.specs.Prelude.{◌≡◌, ◌∷◌, [], None, Some, false, IfOk, IfSome, OnOk};
 ghost use Rattle.link_uri.specs.Links.{IsLink, AreLinks};
 ghost use Rattle.reach_criteria.specs.declared.criterion.Criterion.TheVariants as criterion;
 ghost use Rattle.traverse_core.specs.Steps.{AllMayBe, MayBe};
@@ -16,7 +16,7 @@ use link_uri::{Link, Scheme, link_of};
 use outer_ports::MemorySink;
 use rdf_terms::Memory;
 use reach_criteria::Criterion;
-use reach_terms::{Found, Outcome};
+use reachability::{Found, Outcome};
 use std::alloc::Global;
 use std::collections::VecDeque;
 use std::marker::Brand;
@@ -98,7 +98,7 @@ fn commands<J: Job>(alloc: Global, links: u32, named: u32) -> Result<VecDeque<Co
 fn one_link(alloc: Global, link: Link) -> Result<Vec<Link>, Memory>
     requires { IsLink link }
     ensures links { IfOk result (λ links. links.items ≡ link ∷ []) }
-    ensures own { IfOk result (λ links. AreLinks links.items) }
+    ensures valid_links { IfOk result (λ links. AreLinks links.items) }
 {
     let mut links = Vec::new(alloc);
     links.push(link)?;
@@ -124,6 +124,7 @@ fn settled_by<J: Job>(run: Traversal<J, MemorySink>) -> usize {
 }
 
 // How many links a traversal of the commands has settled, where nothing is in flight.
+#[tactic(auto, using(traverse_core::proofs::Stepping::tells_unsure))]
 fn followed<J: Job>(
     alloc: Global,
     query: Query,
@@ -132,13 +133,14 @@ fn followed<J: Job>(
     links: u32,
     named: u32,
 ) -> Result<usize, Memory>
-    requires own { AreLinks seeds.items }
+    requires valid_links { AreLinks seeds.items }
     requires query { query ≡ J.run.query }
     requires seeds { seeds.items ≡ J.run.seeds }
     requires criterion { J.run.criterion ≡ criterion.All }
     requires limit { J.run.limit ≡ 1000000 }
     requires out { (J.run.content ≡ Some out.content) × (J.run.faults ≡ out.faults) }
     requires untold { J.run.fetch.web ≡ None }
+    requires unsure { J.run.fetch.sure ≡ false }
 {
     let commands = commands::<J>(alloc, links, named)?;
     match Traversal::<J, MemorySink>::open(alloc, query, seeds, Criterion::All, 1_000_000, out) {

@@ -1,7 +1,6 @@
 //! Calls of `expr_eval`.
 use expr_eval::{CompareOp, Env, Evaluated, Expr, Sign, equal, evaluate, evaluate_truth, order};
-use items_core::{Boxed, Items};
-use rdf_terms::{Term, TextBuf};
+use rdf_terms::{Boxed, Seq, Term, TextBuf};
 use std::alloc::Global;
 use std::process::Abort;
 
@@ -53,8 +52,8 @@ fn constant(alloc: Global, rt: &impl Abort, lexical: &str, datatype: &str) -> Bo
     boxed(alloc, rt, Expr::Constant(term))
 }
 
-fn plus_half(alloc: Global, rt: &impl Abort) -> Items<(Sign, Expr)> {
-    let mut rest = Items::new(alloc);
+fn plus_half(alloc: Global, rt: &impl Abort) -> Seq<(Sign, Expr)> {
+    let mut rest = Seq::new(alloc);
     let half = literal(alloc, rt, "0.50", DECIMAL);
     rest.push((Sign::Plus, Expr::Constant(half)))
         .expect(rt, "memory");

@@ -8,6 +8,8 @@
 #![tactic(auto)]
 
 #[cfg(test)]
+mod boxes;
+#[cfg(test)]
 mod expressions;
 #[cfg(test)]
 mod links;
@@ -21,3 +23,5 @@ mod rows;
 mod terms;
 #[cfg(test)]
 mod values;
+#[cfg(test)]
+mod wires;

@@ -28,9 +28,9 @@ fn is_row(alloc: Global, rt: &impl Abort, found: &Row, first: &str, second: &str
     found.cells() == expected.cells()
 }
 
-fn free_row_is_empty(alloc: Global, rt: &impl Abort) -> bool {
-    let free = Row::free(alloc, 2).expect(rt, "memory");
-    is_row(alloc, rt, &free, "", "")
+fn unbound_row_is_empty(alloc: Global, rt: &impl Abort) -> bool {
+    let unbound = Row::unbound(alloc, 2).expect(rt, "memory");
+    is_row(alloc, rt, &unbound, "", "")
 }
 
 fn row_is_copied(alloc: Global, rt: &impl Abort, row: &Row) -> bool {
@@ -47,7 +47,7 @@ fn row_is_swapped(alloc: Global, rt: &impl Abort, row: &Row) -> bool {
 fn rows_are_made_copied_and_projected(rt: HostRuntime) {
     let alloc = rt.alloc();
     let whole = row(alloc, &rt, "a", "b");
-    assert!(rt; free_row_is_empty(alloc, &rt));
+    assert!(rt; unbound_row_is_empty(alloc, &rt));
     assert!(rt; row_is_copied(alloc, &rt, &whole));
     assert!(rt; row_is_swapped(alloc, &rt, &whole));
 }

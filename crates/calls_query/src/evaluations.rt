@@ -1,6 +1,7 @@
 //! Tests of `algebra_core`.
-use algebra_core::{Algebra, Key, Query, evaluate_query, is_monotone, patterns};
+use algebra_core::{Algebra, Key, Query, evaluate_over, evaluate_query, is_monotone, patterns};
 use expr_eval::Expr;
+use growing_graph::Graph;
 use rdf_terms::{Seq, Term, TextBuf, Triple};
 use rows_core::{Row, Spot, TriplePattern};
 use std::alloc::Global;
@@ -95,10 +96,69 @@ fn a_copy_gives_each_row_once(alloc: Global, rt: &impl Abort) -> bool {
     are_rows_of(rows.as_slice(), "a", "d")
 }
 
+fn graph(alloc: Global, rt: &impl Abort) -> Graph {
+    let triples = triples(alloc, rt);
+    let mut graph = Graph::new(alloc);
+    graph.extend(&triples).expect(rt, "memory");
+    graph
+}
+
+fn a_graph_gives_each_row_once(alloc: Global, rt: &impl Abort) -> bool {
+    let query = subjects(alloc, rt);
+    let graph = graph(alloc, rt);
+    let rows = evaluate_over(alloc, &query, &graph).expect(rt, "memory");
+    are_rows_of(rows.as_slice(), "a", "d")
+}
+
+fn push_pattern(alloc: Global, rt: &impl Abort, body: &mut Seq<TriplePattern>, s: u16, o: u16) {
+    let p = Spot::Term(iri(alloc, rt, "p"));
+    let s = Spot::Var(s);
+    let o = Spot::Var(o);
+    body.push(TriplePattern { s, p, o }).expect(rt, "memory");
+}
+
+// Pairs of triples in which the first's object is the second's subject.
+fn chained(alloc: Global, rt: &impl Abort) -> Algebra {
+    let mut body = Seq::new(alloc);
+    push_pattern(alloc, rt, &mut body, 0, 1);
+    push_pattern(alloc, rt, &mut body, 1, 2);
+    Algebra::Bgp(body)
+}
+
+fn starts_of_chains(alloc: Global, rt: &impl Abort) -> Query {
+    let names = names(alloc, rt);
+    let select = first_variable(alloc, rt);
+    let body = chained(alloc, rt);
+    Query {
+        names,
+        width: 3,
+        select,
+        distinct: false,
+        body,
+        order: Seq::new(alloc),
+    }
+}
+
+fn longer(alloc: Global, rt: &impl Abort) -> Graph {
+    let mut graph = graph(alloc, rt);
+    let closing = triple(alloc, rt, "b", "e");
+    let _ = graph.insert(closing).expect(rt, "memory");
+    graph
+}
+
+fn a_chain_is_followed_by_its_terms(alloc: Global, rt: &impl Abort) -> bool {
+    let query = starts_of_chains(alloc, rt);
+    let graph = longer(alloc, rt);
+    let rows = evaluate_over(alloc, &query, &graph).expect(rt, "memory");
+    are_rows_of(rows.as_slice(), "a", "d")
+}
+
 #[test]
 fn equal_rows_come_once_where_asked(rt: HostRuntime) {
     let alloc = rt.alloc();
     assert!(rt; a_copy_gives_each_row_once(alloc, &rt));
+    assert!(rt; a_graph_gives_each_row_once(alloc, &rt));
+    assert!(rt; a_chain_is_followed_by_its_terms(alloc, &rt));
 }
 
 fn subjects_are_monotone(alloc: Global, rt: &impl Abort) -> bool {

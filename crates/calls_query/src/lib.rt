@@ -14,10 +14,10 @@ mod graphs;
 #[cfg(test)]
 mod joins;
 #[cfg(test)]
-mod parts;
-#[cfg(test)]
 mod queries;
 #[cfg(test)]
 mod results;
+#[cfg(test)]
+mod translations;
 #[cfg(test)]
 mod writers;

@@ -1,8 +1,8 @@
-//! Tests of `row_writer`.
+//! Tests of `result_writer`.
 use json_results::head;
 use outer_ports::MemorySink;
 use rdf_terms::TextBuf;
-use row_writer::{RowWriter, Written};
+use result_writer::{RowWriter, Written};
 use std::alloc::Global;
 use std::process::Abort;
 

@@ -1,4 +1,4 @@
-//! Direct calls of the libraries that read texts: the texts of tokens, the two lexers, the two scans,
+//! Direct calls of the libraries that read texts: the texts of tokens, the two lexers, what their tokens stand for,
 //! the readers of documents, and requests and responses. It has tests alone, since a library with tests of its own is proved
 //! twice.
 //!
@@ -15,9 +15,9 @@ mod messages;
 #[cfg(test)]
 mod query_tokens;
 #[cfg(test)]
-mod scanned_queries;
+mod resolved_queries;
 #[cfg(test)]
-mod scanned_turtle;
+mod resolved_turtle;
 #[cfg(test)]
 mod texts;
 #[cfg(test)]

@@ -1,10 +1,10 @@
-//! Calls of `token_texts`.
+//! Calls of `terminals`.
+use iri_core::{prefixed_iri, resolved_iri};
 use rdf_terms::{Memory, TextBuf};
 use std::alloc::Global;
 use std::process::Abort;
-use token_texts::{
-    iri_text, label_text, local_text, plain_text, prefix_text, prefixed_iri, referred_iri,
-    string_text, tag_text, variable_text,
+use terminals::{
+    iri_text, label_text, local_text, plain_text, prefix_text, string_text, tag_text, variable_text,
 };
 
 type Read = Result<Option<TextBuf>, Memory>;
@@ -56,7 +56,7 @@ fn name_is_in_full(alloc: Global, rt: &impl Abort) -> bool {
 
 #[test]
 fn gives_iris_in_full(rt: HostRuntime) {
-    let referred = referred_iri(rt.alloc(), "http://a.test/b/c", "../d");
+    let referred = resolved_iri(rt.alloc(), "http://a.test/b/c", "../d");
     assert!(rt; gives(&rt, referred, "http://a.test/d"));
     assert!(rt; name_is_in_full(rt.alloc(), &rt));
 }

@@ -1,12 +1,14 @@
-//! Tests of `web_port`.
+//! Tests of `web_port`, and of what an answer comes to.
 ghost use Rattle.std.specs.Prelude.{◌≡◌, []};
 ghost use Rattle.link_uri.specs.Links.{IsLink};
 
 use link_uri::{Heard, Link, Scheme, link_of};
 use rdf_terms::{Seq, TextBuf};
+use reachability::{Found, Outcome, Why};
 use site_core::{Site, read_site};
 use std::alloc::Global;
 use std::process::Abort;
+use traverse_core::classify_got;
 use web_port::{
     Cause, FetchSettings, Fetcher, Got, Links, MakeFault, MemoryLinks, MemoryWeb, SiteLinks, Via,
     Web, next_landed,
@@ -209,4 +211,20 @@ fn answers_each(alloc: Global, rt: &impl Abort) -> bool {
 fn a_site_answers_as_a_web(rt: HostRuntime) {
     let alloc = rt.alloc();
     assert!(rt; answers_each(alloc, &rt));
+}
+
+fn is_refused_for_its_length(found: &Found) -> bool {
+    matches!(found, Found::Outcome(Outcome::Refused(Why::Length)))
+}
+
+fn classifies_what_was_got(alloc: Global, rt: &impl Abort) -> bool {
+    let link = link(alloc, rt, FIRST);
+    let found = classify_got(alloc, &link, Got::Heard(Heard::TooLong), 100).expect(rt, "memory");
+    is_refused_for_its_length(&found)
+}
+
+#[test]
+fn an_answer_that_is_too_long_is_refused(rt: HostRuntime) {
+    let alloc = rt.alloc();
+    assert!(rt; classifies_what_was_got(alloc, &rt));
 }

@@ -1,4 +1,4 @@
-//! Tests of public calls: boxes and lists, the queue of links, criteria, webs, sites, fetchers, reports,
+//! Tests of public calls: boxes and lists, the queue of links, criteria, webs, sites, what they serve, fetchers, reports,
 //! and the top call.
 //!
 //! Each public call of these libraries that can answer want of memory is made here with ample memory,
@@ -10,13 +10,13 @@
 #[cfg(test)]
 mod answers;
 #[cfg(test)]
-mod boxes;
-#[cfg(test)]
 mod criteria;
 #[cfg(test)]
 mod fetchers;
 #[cfg(test)]
 mod reports;
+#[cfg(test)]
+mod serving;
 #[cfg(test)]
 mod sites;
 #[cfg(test)]

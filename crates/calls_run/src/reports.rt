@@ -1,6 +1,6 @@
 //! Tests of `run_report`.
 use rdf_terms::{Seq, TextBuf};
-use reach_terms::{Cause, Entry, Found, Outcome, Record, Why};
+use reachability::{Cause, Entry, Found, Outcome, Record, Why};
 use run_report::{has_failed, record_report};
 use std::alloc::Global;
 use std::process::Abort;

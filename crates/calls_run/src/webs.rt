@@ -1,7 +1,7 @@
-//! Tests of `reach_terms`.
+//! Tests of `reachability`.
 use link_uri::Heard;
 use rdf_terms::{Seq, TextBuf};
-use reach_terms::Web;
+use reachability::Web;
 use std::alloc::Global;
 use std::process::Abort;
 

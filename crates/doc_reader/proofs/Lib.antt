@@ -1,4 +1,1 @@
-pub mod Documents
-pub mod Loading
 pub mod Locations
-pub mod Readings

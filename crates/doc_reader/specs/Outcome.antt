@@ -10,16 +10,15 @@ use Rattle.link_uri.specs.declared.heard.Heard.{Heard}
 use Rattle.link_uri.specs.declared.heard.Heard.TheVariants.{Reply as Replied, Malformed, TooLong, Never}
 use Rattle.link_uri.specs.Links.{IsLink, joined_link}
 use Rattle.link_uri.specs.Heard.{is_uncoded, is_turtle, is_ntriples}
-use Rattle.turtle_scan.specs.declared.fault.Fault.{Fault}
-use Rattle.turtle_scan.specs.declared.fault.Fault.TheVariants.{Syntax, Deep}
+use Rattle.turtle_reader.specs.declared.token_fault.Fault.{Fault}
+use Rattle.turtle_reader.specs.declared.token_fault.Fault.TheVariants.{Syntax, Deep}
 use Rattle.turtle_reader.specs.Reading.{turtle_reading}
-use Rattle.doc_reader.specs.Reading.{ntriples_reading}
-use Rattle.reach_terms.specs.declared.outcome.Outcome.{Outcome}
-use Rattle.reach_terms.specs.declared.outcome.Outcome.TheVariants.{Document, Moved, Refused}
-use Rattle.reach_terms.specs.declared.outcome.Why.{Why}
-use Rattle.reach_terms.specs.declared.outcome.Why.TheVariants as why
-use Rattle.reach_terms.specs.declared.web.Web.{Web}
-use Rattle.reach_terms.specs.Web.{heard_at}
+use Rattle.ntriples_reader.specs.Reading.{ntriples_reading}
+use Rattle.reachability.specs.declared.outcome.Outcome.{Outcome}
+use Rattle.reachability.specs.declared.outcome.Outcome.TheVariants.{Document, Moved, Refused}
+use Rattle.reachability.specs.declared.outcome.Why.{Why}
+use Rattle.reachability.specs.declared.outcome.Why.TheVariants as why
+use Rattle.reachability.specs.Web.{ToldWeb}
 
 -- a status that redirects to a location (RFC 9110, sections 15.4.2 to 15.4.4, 15.4.8, 15.4.9)
 abbrev pub is_redirect : ℕ → Bool
@@ -93,8 +92,8 @@ abbrev pub outcome : Link → Heard → ℕ → Option Outcome
 outcome link heard limit = scheme_outcome link.scheme link heard limit
 
 -- what a look-up of the link in the web comes to
-abbrev pub outcome_of : Web → ℕ → Link → Option Outcome
-outcome_of web limit link = outcome link (heard_at web link) limit
+abbrev pub outcome_of : ToldWeb → ℕ → Link → Option Outcome
+outcome_of web limit link = outcome link (web link.text) limit
 
 -- the link in an outcome, where it has one, is the link of its own text
 abbrev pub HasLinks : Outcome → Type 0

@@ -5,13 +5,13 @@ ghost use Rattle.link_uri.specs.Links.{IsLink};
 ghost use Rattle.link_uri.specs.declared.heard.Heard.TheVariants.{Never};
 ghost use Rattle.turtle_reader.specs.Reading.{turtle_reading};
 ghost use Rattle.doc_reader.specs.Outcome.{HasLinks};
-ghost use Rattle.doc_reader.specs.Reading.{ntriples_reading};
+ghost use Rattle.ntriples_reader.specs.Reading.{ntriples_reading};
 ghost use Rattle.doc_reader.specs.Outcome as spec;
 
-use crate::reading::read_ntriples;
 use link_uri::{Heard, Link, Reply, Scheme, join};
+use ntriples_reader::read_ntriples;
 use rdf_terms::{ByteBuf, Memory, Seq};
-use reach_terms::{Outcome, Why};
+use reachability::{Outcome, Why};
 use std::alloc::Global;
 use turtle_reader::{ReadFault, read_turtle};
 
@@ -23,7 +23,7 @@ fn is_redirect(status: u16) -> bool
 
 fn link_behind(alloc: Global, link: &Link, location: &[u8]) -> Result<Option<Link>, Memory>
     ensures value { IfOk result (λ to. to ≡ spec.link_behind link.now location.now) }
-    ensures own { IfOk result (λ to. IfSome to IsLink) }
+    ensures valid_links { IfOk result (λ to. IfSome to IsLink) }
 {
     match str::from_utf8(location) {
         Ok(text) => join(alloc, link, text),
@@ -37,7 +37,7 @@ fn location_link(
     location: &Option<ByteBuf>,
 ) -> Result<Option<Link>, Memory>
     ensures value { IfOk result (λ to. to ≡ spec.location_link link.now location.now) }
-    ensures own { IfOk result (λ to. IfSome to IsLink) }
+    ensures valid_links { IfOk result (λ to. IfSome to IsLink) }
 {
     match location {
         None => Ok(None),
@@ -139,7 +139,7 @@ fn heard_outcome(alloc: Global, link: &Link, heard: &Heard, limit: u64) -> Resul
 /// What the answer for a link comes to, with a limit on the bytes of a body. It takes the time of
 /// reading the body.
 pub fn classify(alloc: Global, link: &Link, heard: &Heard, limit: u64) -> Result<Outcome, Memory>
-    requires own { IsLink link.now }
+    requires valid_links { IsLink link.now }
     requires answered { heard.now ≢ Never }
     ensures value { IfOk result (λ o. Some o ≡ spec.outcome link.now heard.now limit) }
     ensures links { IfOk result HasLinks }

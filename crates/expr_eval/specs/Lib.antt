@@ -1,4 +1,4 @@
-pub mod Held
+pub mod Views
 pub mod Names
 pub mod Order
 pub mod Truth

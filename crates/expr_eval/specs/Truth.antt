@@ -4,7 +4,7 @@ use Rattle.std.specs.Prelude.{ℕ, Bool, true, false, not, ◌&&◌, ◌||◌, �
 use Rattle.std.specs.Option.{option_or}
 use Rattle.std.specs.Ordering.{int_eq, int_cmp, bool_cmp, is_eq, is_lt}
 use Rattle.value_core.specs.declared.numbers.Number.{Number}
-use Rattle.value_core.specs.Numbers.{number_of, boolean_of, is_judged, is_well_formed}
+use Rattle.value_core.specs.Numbers.{number_of, boolean_of, has_value_space, is_well_formed}
 use Rattle.rdf_terms.specs.declared.term.Term.{Term}
 use Rattle.rdf_terms.specs.declared.term.Term.TheVariants.{Blank, Iri, Literal}
 use Rattle.rdf_terms.specs.Order.{text_cmp}
@@ -53,7 +53,7 @@ truth_of_number n = not (int_eq n.scaled (pos 0))
 
 -- a form that is not valid for its datatype is false
 abbrev pub truth_of_form : List ℕ → List ℕ → Option Bool
-truth_of_form datatype lexical = if is_judged datatype && not (is_well_formed lexical datatype) then Some false else None
+truth_of_form datatype lexical = if has_value_space datatype && not (is_well_formed lexical datatype) then Some false else None
 
 -- the effective boolean value of a term, by the first of four cases that holds
 abbrev pub truth_of_term : Term → Option Bool

@@ -1,5 +1,5 @@
 ghost use Rattle.std.specs.Prelude.{◌≡◌, [], IfOk, unwrap_or, Some};
-ghost use Rattle.expr_eval.specs.Held.{operand_term, held_value};
+ghost use Rattle.expr_eval.specs.Views.{operand_term, held_value};
 ghost use Rattle.expr_eval.specs.Value.{called as value_called};
 ghost use Rattle.expr_eval.specs.declared.expr.Function.TheVariants.{Str, Lang, Datatype};
 

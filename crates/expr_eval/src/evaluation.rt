@@ -1,14 +1,13 @@
 ghost use Rattle.std.specs.Prelude.{◌≡◌, IfOk, Some, fold, map, not, option_map};
 ghost use Rattle.std.specs.Option.{option_and_then, option_copied};
-ghost use Rattle.expr_eval.specs.Held.{evaluated, held_value};
+ghost use Rattle.expr_eval.specs.Views.{evaluated, held_value};
 ghost use Rattle.expr_eval.specs.Value as spec;
 
 use crate::calls::called;
 use crate::making::number_term;
 use crate::operand::{Held, Operand, compare_held, number_of, same_held, truth_of};
 use crate::{Env, Expr, Function, Sign};
-use items_core::Items;
-use rdf_terms::{Memory, Term};
+use rdf_terms::{Memory, Seq, Term};
 use std::alloc::Global;
 use value_core::{Number, add, sub};
 
@@ -155,7 +154,7 @@ fn value_of<'a, E: Env>(
 /// True where a part is true, else the error where one is the error, else false. Parts after a true
 /// one are not looked at.
 #[cycle(evaluation)]
-fn any_of<E: Env>(alloc: Global, parts: &Items<Expr>, env: &E) -> Result<Option<bool>, Memory>
+fn any_of<E: Env>(alloc: Global, parts: &Seq<Expr>, env: &E) -> Result<Option<bool>, Memory>
     ensures { IfOk result (λ t. t ≡ spec.any_of
         (map (λ part. spec.truth_of (spec.value_of part (E.bindings env.now))) parts.now)) }
 {
@@ -173,7 +172,7 @@ fn any_of<E: Env>(alloc: Global, parts: &Items<Expr>, env: &E) -> Result<Option<
 /// False where a part is false, else the error where one is the error, else true. Parts after a
 /// false one are not looked at.
 #[cycle(evaluation)]
-fn all_of<E: Env>(alloc: Global, parts: &Items<Expr>, env: &E) -> Result<Option<bool>, Memory>
+fn all_of<E: Env>(alloc: Global, parts: &Seq<Expr>, env: &E) -> Result<Option<bool>, Memory>
     ensures { IfOk result (λ t. t ≡ spec.all_of
         (map (λ part. spec.truth_of (spec.value_of part (E.bindings env.now))) parts.now)) }
 {
@@ -193,7 +192,7 @@ fn all_of<E: Env>(alloc: Global, parts: &Items<Expr>, env: &E) -> Result<Option<
 fn sum_of<E: Env>(
     alloc: Global,
     first: Option<Number>,
-    rest: &Items<(Sign, Expr)>,
+    rest: &Seq<(Sign, Expr)>,
     env: &E,
 ) -> Result<Option<Number>, Memory>
     ensures { IfOk result (λ n. n ≡ fold spec.with_operand first

@@ -1,7 +1,6 @@
 ghost use Rattle.std.specs.Prelude.{◌≡◌, IfOk};
 
-use items_core::{Boxed, Items};
-use rdf_terms::{Memory, Term};
+use rdf_terms::{Boxed, Memory, Seq, Term};
 use std::alloc::Global;
 
 /// A function of one term (SPARQL 1.1, section 17.4.2).
@@ -42,8 +41,8 @@ pub enum Sign {
 pub enum Expr {
     Var(u16),
     Constant(Term),
-    Or(Items<Expr>),
-    And(Items<Expr>),
+    Or(Seq<Expr>),
+    And(Seq<Expr>),
     Not(Boxed<Expr>),
     Compare {
         op: CompareOp,
@@ -53,7 +52,7 @@ pub enum Expr {
     /// A sum of signed operands, taken from the left.
     Sum {
         first: Boxed<Expr>,
-        rest: Items<(Sign, Expr)>,
+        rest: Seq<(Sign, Expr)>,
     },
     Signed {
         sign: Sign,
@@ -112,14 +111,14 @@ impl Expr {
 fn copy_boxed(alloc: Global, of: &Boxed<Expr>) -> Result<Boxed<Expr>, Memory>
     ensures { IfOk result (λ e. e ≡ of.now) }
 {
-    Ok(Boxed::new(alloc, of.get().copy(alloc)?)?)
+    Boxed::new(alloc, of.get().copy(alloc)?)
 }
 
 #[cycle(copying)]
-fn copy_all(alloc: Global, parts: &Items<Expr>) -> Result<Items<Expr>, Memory>
+fn copy_all(alloc: Global, parts: &Seq<Expr>) -> Result<Seq<Expr>, Memory>
     ensures { IfOk result (λ all. all ≡ parts.now) }
 {
-    let mut all = Items::new(alloc);
+    let mut all = Seq::new(alloc);
     for part in parts.as_slice() {
         all.push(part.copy(alloc)?)?;
     }
@@ -127,13 +126,10 @@ fn copy_all(alloc: Global, parts: &Items<Expr>) -> Result<Items<Expr>, Memory>
 }
 
 #[cycle(copying)]
-fn copy_operands(
-    alloc: Global,
-    operands: &Items<(Sign, Expr)>,
-) -> Result<Items<(Sign, Expr)>, Memory>
+fn copy_operands(alloc: Global, operands: &Seq<(Sign, Expr)>) -> Result<Seq<(Sign, Expr)>, Memory>
     ensures { IfOk result (λ all. all ≡ operands.now) }
 {
-    let mut all = Items::new(alloc);
+    let mut all = Seq::new(alloc);
     for operand in operands.as_slice() {
         all.push((operand.0, operand.1.copy(alloc)?))?;
     }

@@ -1,5 +1,5 @@
 ghost use Rattle.std.specs.Prelude.{◌≡◌, Some, IfOk};
-ghost use Rattle.expr_eval.specs.Held.{operand_term, held_term, held_value};
+ghost use Rattle.expr_eval.specs.Views.{operand_term, held_term, held_value};
 ghost use Rattle.expr_eval.specs.Truth.{compared as compared_terms, truth_of_term, both};
 ghost use Rattle.expr_eval.specs.Value as spec;
 ghost use Rattle.rdf_terms.specs.Same.{same_term};

@@ -6,7 +6,7 @@ ghost use Rattle.expr_eval.specs.Truth as spec;
 use crate::CompareOp;
 use rdf_terms::{Term, is_same_term};
 use std::cmp::Ordering;
-use value_core::{Number, boolean_of, compare, is_judged, number_of, well_formed};
+use value_core::{Number, boolean_of, compare, has_value_space, number_of, well_formed};
 
 /// The datatype of simple literals.
 pub(crate) const STRING_TYPE: &str = "http://www.w3.org/2001/XMLSchema#string";
@@ -83,7 +83,7 @@ pub fn ebv(term: &Term) -> Option<bool>
         Some(!lexical.is_empty())
     } else if let Some(number) = number_of(lexical, datatype) {
         Some(number.scaled != 0)
-    } else if is_judged(datatype) && !well_formed(lexical, datatype) {
+    } else if has_value_space(datatype) && !well_formed(lexical, datatype) {
         Some(false)
     } else {
         None

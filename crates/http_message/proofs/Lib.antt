@@ -10,3 +10,4 @@ mod Printed
 mod PrintedHeads
 mod Spelled
 mod HeardLemmas
+mod HeadsDecided

@@ -18,7 +18,7 @@ use Rattle.http_message.specs.Lines.{end_from, place_after, skip_from, held}
 use Rattle.http_message.specs.Body.{Progress, decided, undecided, message_from}
 use Rattle.http_message.specs.State.{BodyState, progress_from, is_decided}
 use Rattle.http_message.specs.Reading.{Found, waiting, no_head, final_head, Finds, Reads, progress_after}
-use Rattle.http_message.specs.Held.{ReadingState, HasRead, is_done, is_done_at, GoesOn, IsSettled, IsInHead, IsSound, HasBlank, HasHead, HasBody, HasReadAt, IsNoHead, IsFinalHead, IsInterimHead, IsAfterHead}
+use Rattle.http_message.specs.Views.{ReadingState, HasRead, is_done, is_done_at, GoesOn, IsSettled, IsInHead, IsSound, HasBlank, HasHead, HasBody, HasReadAt, IsNoHead, IsFinalHead, IsInterimHead, IsAfterHead}
 use Rattle.http_message.proofs.Bound.{reads_bound}
 use Rattle.http_message.proofs.LineLemmas.{end_within, end_not_yet, place_after-append, whole_end}
 

@@ -11,4 +11,4 @@ pub mod Spelled
 pub mod LineStates
 pub mod State
 pub mod Ended
-pub mod Held
+pub mod Views

@@ -16,6 +16,11 @@ pub fn bytes_have_one_reading()
     ensures { (limit : ℕ) (bytes : List ℕ) (p q : Progress) → Reads limit bytes p → Reads limit bytes q → p ≡ q }
 {}
 
+/// Each list of bytes comes to something.
+pub fn bytes_have_a_reading()
+    ensures { (limit : ℕ) (bytes : List ℕ) → (p : Progress) × Reads limit bytes p }
+{}
+
 /// The bytes of an undecided reading are few.
 pub fn undecided_bytes_are_few()
     ensures { (limit : ℕ) (bytes : List ℕ) (ended : Option Heard) → Reads limit bytes (undecided ended) → length bytes ≤ most_undecided limit }

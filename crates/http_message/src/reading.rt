@@ -1,5 +1,5 @@
 ghost use Rattle.std.specs.Prelude.{◌≡◌, ◌≤◌, ◌<◌, ◌+◌, ℕ, List, ◌++◌, [], ◌∷◌, length, take, IfOk, OnOk, OnErr, IfSome, IfNone, None, false};
-ghost use Rattle.http_message.specs.Held.{IsSound, IsInHead, HasReadAt, HasBlank, HasHead, IsAfterHead};
+ghost use Rattle.http_message.specs.Views.{IsSound, IsInHead, HasReadAt, HasBlank, HasHead, IsAfterHead};
 ghost use Rattle.http_message.specs.Lines.{skip_from, held, end_from, place_after};
 ghost use Rattle.http_message.specs.Reading.{head_limit};
 
@@ -35,7 +35,7 @@ pub enum Fed {
 
 /// A response that is read as it comes, under a limit of its body's bytes.
 ///
-/// `specs/Held.antt` ties it to the bytes that were fed: `HasRead reading fed`.
+/// `specs/Views.antt` ties it to the bytes that were fed: `HasRead reading fed`.
 #[derive(Drop)]
 pub struct Reading {
     alloc: Global,
@@ -48,7 +48,7 @@ pub struct Reading {
 }
 
 impl Model for Reading {
-    ghost use Rattle.http_message.specs.Held.{ReadingState, IsSound};
+    ghost use Rattle.http_message.specs.Views.{ReadingState, IsSound};
 
     ghost Value = { ReadingState };
 
@@ -58,7 +58,7 @@ impl Model for Reading {
 }
 
 impl Reading {
-    ghost use Rattle.http_message.specs.Held.{ReadingState, HasRead, Takes, Gives, Ends, IsAfterEnd, is_done};
+    ghost use Rattle.http_message.specs.Views.{ReadingState, HasRead, Takes, Gives, Ends, IsAfterEnd, is_done};
 
     /// A reading to which nothing has come. No memory is taken.
     pub fn new(alloc: Global, limit: u64) -> Reading

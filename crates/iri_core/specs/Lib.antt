@@ -4,4 +4,5 @@ pub mod Kept
 pub mod Reference
 pub mod Refusal
 pub mod Resolution
+pub mod Iris
 pub mod Seen

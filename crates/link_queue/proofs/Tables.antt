@@ -70,7 +70,7 @@ flies_none (r ∷ rs) h = none_out r.1 (flying rs) (first_flying rs) (flies_none
 pub restated : (rows : List (Link × LinkState)) (sp : List (List ℕ)) (cap : ℕ) (c d n : ℕ) (s : LinkState) → IsTable rows c sp cap → ((k : ℕ) → state_at (with_state rows n s) k ≡ Some Queued → d ≤ k) → d ≤ length rows → IsTable (with_state rows n s) d sp cap
 restated rows sp cap c d n s t w l = record {
   apart = subst (λ (us : List Link). Apart (texts us)) (sym (links_with_state rows n s)) t.apart;
-  own = subst AreLinks (sym (links_with_state rows n s)) t.own;
+  valid_links = subst AreLinks (sym (links_with_state rows n s)) t.valid_links;
   waits = w;
   within = let e = length_with_state rows n s in omega arith;
   clear = t.clear;
@@ -87,7 +87,7 @@ taken_table rows sp cap c p t f l =
     (omega arith)
 
 pub dry_table : (rows : List (Link × LinkState)) (sp : List (List ℕ)) (cap : ℕ) (c : ℕ) → IsTable rows c sp cap → first_queued rows ≡ None → IsTable rows (length rows) sp cap
-dry_table rows sp cap c t f = record { apart = t.apart; own = t.own; waits = λ k h. let m = first_least is_queued Queued rows k queued_test h in let z = sym f ∙ m.1 in absurd (cc); within = omega arith; clear = t.clear; fits = t.fits }
+dry_table rows sp cap c t f = record { apart = t.apart; valid_links = t.valid_links; waits = λ k h. let m = first_least is_queued Queued rows k queued_test h in let z = sym f ∙ m.1 in absurd (cc); within = omega arith; clear = t.clear; fits = t.fits }
 
 pub settled_table : (rows : List (Link × LinkState)) (sp : List (List ℕ)) (cap : ℕ) (c n : ℕ) → IsTable rows c sp cap → IsTable (with_state rows n Settled) c sp cap
 settled_table rows sp cap c n t =
@@ -119,7 +119,7 @@ short_table rows sp cap c d n t l m w =
     let z = length_take n rows w in
     record {
       apart = subst (λ (us : List (List ℕ)). Apart us) (sym e) (apart_left (take n ts) (drop n ts) (subst (λ (us : List (List ℕ)). Apart us) (sym (take-append-drop n ts)) t.apart));
-      own = λ u h. t.own u (subst (λ (us : List Link). IsIn us u) (take-append-drop n (links rows)) (in_left (take n (links rows)) (drop n (links rows)) u (subst (λ (us : List Link). IsIn us u) (links_take n rows) h)));
+      valid_links = λ u h. t.valid_links u (subst (λ (us : List Link). IsIn us u) (take-append-drop n (links rows)) (in_left (take n (links rows)) (drop n (links rows)) u (subst (λ (us : List Link). IsIn us u) (links_take n rows) h)));
       waits = λ k h. let y = t.waits k (state_take rows n k Queued h) in omega arith;
       within = omega arith;
       clear = t.clear;
@@ -156,12 +156,12 @@ queue_new : (rows : List (Link × LinkState)) (u : Link) → list_any (same_link
 queue_new rows u h = ap (λ b. if b then rows else rows ++ (u, Queued) ∷ []) h
 
 pub found_there : (rows : List (Link × LinkState)) (u : Link) (i : ℕ) → AreLinks (links rows) → IsLink u → Some i ≡ position (same_link u) (links rows) → (rows ≡ queue rows u) × (link_at rows i ≡ Some u)
-found_there rows u i own is h =
+found_there rows u i valid_links is h =
     let us = links rows in
     let p = position-Some (same_link u) us i u (sym h) in
     let g : slice_get us i ≡ Some (get_or us i u) = slice_get-get_or us i u p.0 in
     let inside : IsIn us (get_or us i u) = get_in us i _ g in
-    let e : u ≡ get_or us i u = links_tell.one u (get_or us i u) is (own _ inside) p.1 in
+    let e : u ≡ get_or us i u = links_tell.one u (get_or us i u) is (valid_links _ inside) p.1 in
     (queue_old rows u (in_any (same_link u) us _ inside p.1), link_at_get rows i u (g ∙ ap (λ (x : Link). Some x) (sym e)))
 
 pub found_none : (rows : List (Link × LinkState)) (u : Link) → None ≡ position (same_link u) (links rows) → (queue rows u ≡ rows ++ (u, Queued) ∷ []) × (list_any (same_link u) (links rows) ≡ false)
@@ -176,7 +176,7 @@ pushed_table rows sp old cap c u t is n f =
     record {
       apart = subst (λ (us : List (List ℕ)). Apart us) (sym (ap texts e ∙ map_push link_text (links rows) u))
           (apart_push (texts (links rows)) u.text t.apart (λ h. let w = from_map link_text (links rows) u.text h in let z = in_any (same_link u) (links rows) w.0 w.1 (same_text u w.0 w.2) in absurd (cc)));
-      own = λ v h. elim (in_either (links rows) (u ∷ []) v (subst (λ (us : List Link). IsIn us v) e h)) [ inl a ↦ t.own v a | inr b ↦ elim b [ inl s ↦ subst IsLink s is | inr z ↦ absurd z ] ];
+      valid_links = λ v h. elim (in_either (links rows) (u ∷ []) v (subst (λ (us : List Link). IsIn us v) e h)) [ inl a ↦ t.valid_links v a | inr b ↦ elim b [ inl s ↦ subst IsLink s is | inr z ↦ absurd z ] ];
       waits = λ k h. elim (append_cases rows ((u, Queued) ∷ []) k Queued h) [ inl a ↦ t.waits k a | inr l ↦ let z = t.within in omega arith ];
       within = let z = t.within in omega arith;
       clear = t.clear;
@@ -188,4 +188,4 @@ none_from None h = refl
 none_from (Some x) h = absurd (cc)
 
 pub own_at : (rows : List (Link × LinkState)) (n : ℕ) (u : Link) → AreLinks (links rows) → link_at rows n ≡ Some u → IsLink u
-own_at rows n u own at = own u (link_in rows n u at)
+own_at rows n u valid_links at = valid_links u (link_in rows n u at)

@@ -73,7 +73,7 @@ marks rows = map mark rows
 -- before the cursor, and there is room for the text of each link
 pub record IsTable (rows : List (Link × LinkState)) (cursor : ℕ) (spare : List (List ℕ)) (room : ℕ) : Type 0 where
   pub apart : Apart (texts (links rows))
-  pub own : AreLinks (links rows)
+  pub valid_links : AreLinks (links rows)
   pub waits : (n : ℕ) → state_at rows n ≡ Some Queued → cursor ≤ n
   pub within : cursor ≤ length rows
   pub clear : spare ≡ []

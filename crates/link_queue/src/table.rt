@@ -119,7 +119,7 @@ impl LinkTable {
     pub fn len(&self) -> u64
         ensures len { result ≡ length self.now }
         ensures apart { Apart (texts (links self.now)) }
-        ensures own { AreLinks (links self.now) }
+        ensures valid_links { AreLinks (links self.now) }
     {
         self.map.len() as u64
     }
@@ -128,7 +128,7 @@ impl LinkTable {
     pub fn get(&self, number: u64) -> &Link
         requires { number < length self.now }
         ensures link { link_at self.now number ≡ Some result.now }
-        ensures own { IsLink result.now }
+        ensures valid_links { IsLink result.now }
     {
         match self.map.get_index(number as usize) {
             Some((link, _state)) => link,
@@ -149,7 +149,7 @@ impl LinkTable {
         ensures { IsTrue result ↔ (slice_get self.now number ≡ Some (link.now, InFlight)) }
     {
         match self.map.get_index(number as usize) {
-            Some((own, LinkState::InFlight)) => is_same_link(own, link),
+            Some((valid_links, LinkState::InFlight)) => is_same_link(valid_links, link),
             _ => false,
         }
     }

@@ -78,10 +78,10 @@ own_none Https = refl
 
 by_port : (scheme : List ℕ) (S : Scheme) (host rest : List ℕ) (port : Option ℕ) → default_port scheme ≡ Some (own_port S) → IsPortOf scheme port
     → host ++ (when (is_some port) (codes ":") ++ (unwrap_or (option_map decimal port) [] ++ rest)) ≡ host ++ (port_text S (unwrap_or (option_or port (default_port scheme)) 0) ++ rest)
-by_port scheme S host rest None own port =
-    sym (ap (λ p. host ++ (port_text S (unwrap_or p 0) ++ rest)) own ∙ ap (λ (t : List ℕ). host ++ (t ++ rest)) (own_none S))
-by_port scheme S host rest (Some n) own port =
-    let other : (n == own_port S) ≡ false = ne_eqb n (own_port S) (λ same. port.1 (own ∙ ap Some (sym same))) in
+by_port scheme S host rest None valid_link port =
+    sym (ap (λ p. host ++ (port_text S (unwrap_or p 0) ++ rest)) valid_link ∙ ap (λ (t : List ℕ). host ++ (t ++ rest)) (own_none S))
+by_port scheme S host rest (Some n) valid_link port =
+    let other : (n == own_port S) ≡ false = ne_eqb n (own_port S) (λ same. port.1 (valid_link ∙ ap Some (sym same))) in
     ap (λ b. host ++ (cond b [] (58 ∷ decimal n) ++ rest)) (sym other)
 
 plain_text : (url : Parts) → url.username ≡ [] → url.password ≡ [] → is_some url.host ≡ true
@@ -137,14 +137,14 @@ pub own_link : (url : Parts) → IsValid url → is_web url ≡ true → IsLink 
 own_link url valid web =
     let both = and_both (is_http url.scheme) (has_host url) (has_credentials url) web in
     record {
-      own = own_link_text url valid web;
+      valid_link = own_link_text url valid web;
       text = text_spelled url valid web;
       rooted = rooted_path url _ valid.path (http_kind url.scheme (web_http url web)) (host_there url.host both.0);
     }
 
 -- two links with one text are equal in all parts
 pub equal_by_text : (a b : Link) → IsLink a → IsLink b → a.text ≡ b.text → a ≡ b
-equal_by_text a b x y same = some_same (sym x.own ∙ ap link_of same ∙ y.own)
+equal_by_text a b x y same = some_same (sym x.valid_link ∙ ap link_of same ∙ y.valid_link)
   where
     some_same : Some a ≡ Some b → a ≡ b
     some_same h = cc

@@ -74,7 +74,7 @@ spelled link = scheme_text link.scheme ++ (codes "://" ++ (link.host ++ (port_te
 
 -- the link is the link of its own text, which its parts spell, and its target is an absolute path
 pub record IsLink (link : Link) : Type 0 where
-  pub own : link_of link.text ≡ Some link
+  pub valid_link : link_of link.text ≡ Some link
   pub text : link.text ≡ spelled link
   pub rooted : take 1 link.target ≡ codes "/"
 

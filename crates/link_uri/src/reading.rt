@@ -14,7 +14,7 @@ use url::{ParseError, ParseResult, Position, Url};
 /// The link of a text, or none where it has no link. It costs time in the text's length.
 pub fn link_of(alloc: Global, iri: &str) -> Result<Option<Link>, Memory>
     ensures value { IfOk result (λ link. link ≡ spec.link_of iri.now) }
-    ensures own { IfOk result (λ link. IfSome link IsLink) }
+    ensures valid_links { IfOk result (λ link. IfSome link IsLink) }
 {
     link_of_parsed(alloc, Url::parse(alloc, iri))
 }
@@ -22,7 +22,7 @@ pub fn link_of(alloc: Global, iri: &str) -> Result<Option<Link>, Memory>
 /// The link of a reference that is read against a link, or none where it has no link.
 pub fn join(alloc: Global, base: &Link, location: &str) -> Result<Option<Link>, Memory>
     ensures value { IfOk result (λ link. link ≡ spec.joined_link base.now.text location.now) }
-    ensures own { IfOk result (λ link. IfSome link IsLink) }
+    ensures valid_links { IfOk result (λ link. IfSome link IsLink) }
 {
     match Url::parse(alloc, base.text.as_str()) {
         Ok(url) => link_of_parsed(alloc, url.join(location)),
@@ -34,7 +34,7 @@ pub fn join(alloc: Global, base: &Link, location: &str) -> Result<Option<Link>, 
 fn link_of_parsed(alloc: Global, parsed: ParseResult<Url>) -> Result<Option<Link>, Memory>
     ensures value { (expected : Parsed Parts) → Gives parsed expected
         → IfOk result (λ link. link ≡ spec.link_of_parsed expected) }
-    ensures own { IfOk result (λ link. IfSome link IsLink) }
+    ensures valid_links { IfOk result (λ link. IfSome link IsLink) }
 {
     match parsed {
         Ok(url) => link_of_url(alloc, &url),
@@ -45,7 +45,7 @@ fn link_of_parsed(alloc: Global, parsed: ParseResult<Url>) -> Result<Option<Link
 
 fn link_of_url(alloc: Global, url: &Url) -> Result<Option<Link>, Memory>
     ensures value { IfOk result (λ link. link ≡ spec.link_of_url url.now) }
-    ensures own { IfOk result (λ link. IfSome link IsLink) }
+    ensures valid_links { IfOk result (λ link. IfSome link IsLink) }
 {
     if !is_web(url) {
         return Ok(None);

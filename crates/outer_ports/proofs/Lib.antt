@@ -1,1 +1,4 @@
 pub mod KnownBytesLemmas
+pub mod MemoryWireLemmas
+pub mod OpenConnsLemmas
+pub mod WireLemmas

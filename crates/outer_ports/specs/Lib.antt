@@ -1,3 +1,5 @@
 pub mod Causes
 pub mod Memory
+pub mod MemoryWire
 pub mod Ports
+pub mod Wire

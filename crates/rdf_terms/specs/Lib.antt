@@ -2,3 +2,4 @@ pub mod Lists
 pub mod NTriplesForm
 pub mod Order
 pub mod Same
+pub mod formers

@@ -11,7 +11,7 @@ use std::marker::Model;
 
 /// A list that contracts see as the list of its items, and never with its room.
 ///
-/// It is the list type of all public records. Comparisons go item by item, as those of `Vec` do.
+/// It is the list type of all public records, and of types that lead back to themselves. Comparisons go item by item, as those of `Vec` do.
 #[derive(Debug, Drop)]
 pub struct Seq<T> {
     items: Vec<T>,

@@ -65,7 +65,7 @@ fn gather(
     patterns: &[TriplePattern],
 ) -> Result<Vec<Link>, Memory>
     ensures links { IfOk result (λ links. links.items ≡ spec.links_of criterion patterns.now triples.now) }
-    ensures own { IfOk result (λ links. AreLinks links.items) }
+    ensures valid_links { IfOk result (λ links. AreLinks links.items) }
 {
     let mut links = Gathered::new(alloc);
     for triple in triples {
@@ -87,7 +87,7 @@ pub fn links_of(
     ensures exact { IfOk result (λ links. (text : List ℕ)
         → IsIn (texts links.items) text ↔ IsTarget criterion patterns.now triples.now text) }
     ensures once { IfOk result (λ links. Apart (texts links.items)) }
-    ensures own { IfOk result (λ links. AreLinks links.items) }
+    ensures valid_links { IfOk result (λ links. AreLinks links.items) }
 {
     let links = gather(alloc, triples, criterion, patterns)?;
     Ok(links)

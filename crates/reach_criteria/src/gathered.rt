@@ -46,7 +46,7 @@ impl Gathered {
 
     pub fn into_vec(self, alloc: Global) -> Result<Vec<Link>, Memory>
         ensures links { IfOk result (λ v. v.items ≡ self) }
-        ensures own { IfOk result (λ v. AreLinks v.items) }
+        ensures valid_links { IfOk result (λ v. AreLinks v.items) }
     {
         let Gathered { set } = self;
         Ok(set.into_iter().collect(alloc)?)

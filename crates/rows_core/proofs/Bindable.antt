@@ -10,7 +10,7 @@ use Rattle.rows_core.specs.declared.pattern.Spot.{Spot}
 use Rattle.rows_core.specs.declared.pattern.Spot.TheVariants.{Term as Fixed, Var}
 use Rattle.rows_core.specs.declared.pattern.TriplePattern.{TriplePattern}
 use Rattle.rows_core.specs.Patterns.{agree}
-use Rattle.rows_core.specs.Rows.{Cells, cell_or_free}
+use Rattle.rows_core.specs.Rows.{Cells, cell_or_unbound}
 use Rattle.rows_core.specs.Bindings.{IsExtended, value_at, Gives, IsBinding, under, bound_to, bound_spot, then_bound, bound, cell_takes, takes, is_bindable}
 use Rattle.rows_core.proofs.Matching.{both_and, numbers, if_same, if_not}
 
@@ -37,7 +37,7 @@ twice_extended (None ∷ cs) (Some y ∷ ds) (e ∷ es) h k = twice_extended cs 
 twice_extended (Some x ∷ cs) (None ∷ ds) (e ∷ es) h k = absurd (let z = h.0 in cc)
 twice_extended (Some x ∷ cs) (Some y ∷ ds) (e ∷ es) h k = (k.0 ∙ h.0, twice_extended cs ds es h.1 k.1)
 
-pub cell_kept : (v : ℕ) (ds es : Cells) (x : Term) → IsExtended ds es → cell_or_free (slice_get ds v) ≡ Some x → cell_or_free (slice_get es v) ≡ Some x
+pub cell_kept : (v : ℕ) (ds es : Cells) (x : Term) → IsExtended ds es → cell_or_unbound (slice_get ds v) ≡ Some x → cell_or_unbound (slice_get es v) ≡ Some x
 cell_kept v [] es x h e = absurd (cc)
 cell_kept v (d ∷ ds) [] x h e = absurd h
 cell_kept zero (None ∷ ds) (f ∷ es) x h e = absurd (cc)
@@ -117,7 +117,7 @@ some_below : (x : Term) (d : Option Term) (es : Cells) (o : Option Cells) → d 
 some_below x d es None e h = absurd h
 some_below x d es (Some ds) e h = (e, h)
 
-bound_below : (v : ℕ) (x : Term) (cs es : Cells) → IsExtended cs es → cell_or_free (slice_get es v) ≡ Some x → Below es (bound_to v x cs)
+bound_below : (v : ℕ) (x : Term) (cs es : Cells) → IsExtended cs es → cell_or_unbound (slice_get es v) ≡ Some x → Below es (bound_to v x cs)
 bound_below v x [] [] h e = absurd (cc)
 bound_below v x [] (d ∷ es) h e = absurd h
 bound_below v x (c ∷ cs) [] h e = absurd h
@@ -150,7 +150,7 @@ binding p t row o e = subst (IsBinding p t row) (sym e) (bound_is_binding p t ro
 
 -- ---- the tests decide whether there is a row
 
-cell_taken : (v : ℕ) (cs es : Cells) (x : Term) → IsExtended cs es → cell_or_free (slice_get es v) ≡ Some x → cell_takes (slice_get cs v) x ≡ true
+cell_taken : (v : ℕ) (cs es : Cells) (x : Term) → IsExtended cs es → cell_or_unbound (slice_get es v) ≡ Some x → cell_takes (slice_get cs v) x ≡ true
 cell_taken v [] [] x h e = absurd (cc)
 cell_taken v [] (d ∷ es) x h e = absurd h
 cell_taken v (c ∷ cs) [] x h e = absurd h
@@ -167,7 +167,7 @@ agreed : (es : Cells) (s p : Spot) (x y : Term) → value_at es s ≡ Some x →
 agreed es (Fixed t) p x y e f = refl
 agreed es (Var v) (Fixed u) x y e f = refl
 agreed es (Var v) (Var w) x y e f =
-    elim (numbers v w) [ inl q ↦ if_same (v == w) x y (same_Some x y (sym e ∙ (ap (λ (n : ℕ). cell_or_free (slice_get es n)) q ∙ f))) | inr n ↦ if_not (v == w) x y n ]
+    elim (numbers v w) [ inl q ↦ if_same (v == w) x y (same_Some x y (sym e ∙ (ap (λ (n : ℕ). cell_or_unbound (slice_get es n)) q ∙ f))) | inr n ↦ if_not (v == w) x y n ]
 
 bindable : (p : TriplePattern) (t : Triple) (row es : Cells) → Extending p t row es → is_bindable p t row ≡ true
 bindable p t row es h =

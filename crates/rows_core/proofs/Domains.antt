@@ -9,19 +9,19 @@ use Rattle.rows_core.specs.declared.pattern.Spot.{Spot}
 use Rattle.rows_core.specs.declared.pattern.Spot.TheVariants.{Term as Fixed, Var}
 use Rattle.rows_core.specs.declared.pattern.TriplePattern.{TriplePattern}
 use Rattle.rows_core.specs.Patterns.{Mentions}
-use Rattle.rows_core.specs.Rows.{Cells, Binds, cell_or_free}
+use Rattle.rows_core.specs.Rows.{Cells, Binds, cell_or_unbound}
 use Rattle.rows_core.specs.Bindings.{IsExtended, value_at, Gives, IsLeast, IsBinding, under, bound_to, bound_spot, then_bound, bound}
 use Rattle.rows_core.proofs.Bindable.{Holds, Below, if_holds, each_holds, cell_kept, pattern_below, bound_is_binding}
 
 -- ---- bindings
 
-pub binds_of : (v : ℕ) (row : Cells) (x : Term) → cell_or_free (slice_get row v) ≡ Some x → Binds row v x
+pub binds_of : (v : ℕ) (row : Cells) (x : Term) → cell_or_unbound (slice_get row v) ≡ Some x → Binds row v x
 binds_of v [] x e = absurd (cc)
 binds_of zero (c ∷ cs) x e = ap (λ (o : Option Term). Some o) e
 binds_of (suc v) (c ∷ cs) x e = binds_of v cs x e
 
-pub cell_of : (v : ℕ) (row : Cells) (x : Term) → Binds row v x → cell_or_free (slice_get row v) ≡ Some x
-cell_of v row x e = ap cell_or_free e
+pub cell_of : (v : ℕ) (row : Cells) (x : Term) → Binds row v x → cell_or_unbound (slice_get row v) ≡ Some x
+cell_of v row x e = ap cell_or_unbound e
 
 pub binds_kept : (v : ℕ) (a r : Cells) (x : Term) → IsExtended a r → Binds a v x → Binds r v x
 binds_kept v a r x h e = binds_of v r x (cell_kept v a r x h (cell_of v a x e))

@@ -5,15 +5,15 @@ use Rattle.std.specs.Prelude.{◌&&◌, if◌then◌else◌, slice_get}
 use Rattle.std.proofs.lemmas.List.{take_more, map-append}
 use Rattle.rdf_terms.specs.declared.term.Term.{Term}
 use Rattle.rdf_terms.specs.Same.{same_term}
-use Rattle.rows_core.specs.Rows.{Cells, free, fits, agrees, projected, cell_or_free}
+use Rattle.rows_core.specs.Rows.{Cells, unbound, fits, agrees, projected, cell_or_unbound}
 use Rattle.rows_core.specs.Bindings.{bound_to, under}
 
-free_push : (n : ℕ) → free (suc n) ≡ free n ++ None ∷ []
-free_push zero = refl
-free_push (suc n) = ap (λ l. None ∷ l) (free_push n)
+unbound_push : (n : ℕ) → unbound (suc n) ≡ unbound n ++ None ∷ []
+unbound_push zero = refl
+unbound_push (suc n) = ap (λ l. None ∷ l) (unbound_push n)
 
-pub free_more : (n : ℕ) → free (n + 1) ≡ free n ++ None ∷ []
-free_more n = ap free (add-one n) ∙ free_push n
+pub unbound_more : (n : ℕ) → unbound (n + 1) ≡ unbound n ++ None ∷ []
+unbound_more n = ap unbound (add-one n) ∙ unbound_push n
 
 and_second : (b c : Bool) → (b && c) ≡ true → c ≡ true
 and_second true c h = h
@@ -53,5 +53,5 @@ bound_taken zero x y (None ∷ cs) d h e = absurd (cc)
 bound_taken zero x y (Some z ∷ cs) d h e = let s : z ≡ y = cc in subst (λ (w : Term). (if same_term z x then Some (Some z ∷ cs) else None) ≡ (if same_term w x then Some (Some z ∷ cs) else None)) s refl
 bound_taken (suc v) x y (c ∷ cs) d h e = ap (under c) (bound_taken v x y cs d (omega arith) e) ∙ under_test (same_term y x) c cs
 
-pub projected_more : (select : List ℕ) (cs : Cells) (i : ℕ) (d : ℕ) → i < length select → projected (take (i + 1) select) cs ≡ projected (take i select) cs ++ cell_or_free (slice_get cs (get_or select i d)) ∷ []
-projected_more select cs i d h = ap (λ (l : List ℕ). projected l cs) (take_more select i d h) ∙ map-append (λ v. cell_or_free (slice_get cs v)) (take i select) (get_or select i d ∷ [])
+pub projected_more : (select : List ℕ) (cs : Cells) (i : ℕ) (d : ℕ) → i < length select → projected (take (i + 1) select) cs ≡ projected (take i select) cs ++ cell_or_unbound (slice_get cs (get_or select i d)) ∷ []
+projected_more select cs i d h = ap (λ (l : List ℕ). projected l cs) (take_more select i d h) ∙ map-append (λ v. cell_or_unbound (slice_get cs v)) (take i select) (get_or select i d ∷ [])

@@ -8,7 +8,7 @@ use Rattle.rows_core.specs.declared.pattern.Spot.{Spot}
 use Rattle.rows_core.specs.declared.pattern.Spot.TheVariants.{Term as Fixed, Var}
 use Rattle.rows_core.specs.declared.pattern.TriplePattern.{TriplePattern}
 use Rattle.rows_core.specs.Patterns.{agree}
-use Rattle.rows_core.specs.Rows.{Cells, cell_or_free}
+use Rattle.rows_core.specs.Rows.{Cells, cell_or_unbound}
 
 -- the second row has the first one's width and bindings, and maybe more
 abbrev pub IsExtended : Cells → Cells → Type 0
@@ -21,7 +21,7 @@ IsExtended (Some x ∷ cs) (d ∷ ds) = (d ≡ Some x) × IsExtended cs ds
 -- the term that a spot has in a row, if any
 abbrev pub value_at : Cells → Spot → Option Term
 value_at row (Fixed t) = Some t
-value_at row (Var v) = cell_or_free (slice_get row v)
+value_at row (Var v) = cell_or_unbound (slice_get row v)
 
 -- the row's instance of the pattern is the triple
 abbrev pub Gives : TriplePattern → Triple → Cells → Type 0

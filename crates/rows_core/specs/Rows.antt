@@ -21,17 +21,17 @@ pub record Merges (a b row : Cells) : Type 0 where
   pub bindings : (v : ℕ) (x : Term) → Binds row v x ↔ (Binds a v x ⊎ Binds b v x)
 
 -- the row with no variable bound
-abbrev pub free : ℕ → Cells
-free zero = []
-free (suc n) = None ∷ free n
+abbrev pub unbound : ℕ → Cells
+unbound zero = []
+unbound (suc n) = None ∷ unbound n
 
-abbrev pub cell_or_free : Option (Option Term) → Option Term
-cell_or_free (Some c) = c
-cell_or_free None = None
+abbrev pub cell_or_unbound : Option (Option Term) → Option Term
+cell_or_unbound (Some c) = c
+cell_or_unbound None = None
 
 -- the row's cells at the selected variables, in the order of the selection (section 18.5, Project)
 abbrev pub projected : List ℕ → Cells → Cells
-projected select row = map (λ v. cell_or_free (slice_get row v)) select
+projected select row = map (λ v. cell_or_unbound (slice_get row v)) select
 
 -- ---- the tests and the merge, cell by cell
 

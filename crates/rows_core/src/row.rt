@@ -21,9 +21,9 @@ impl Model for Row {
 
 impl Row {
     /// The row with no variable bound.
-    #[tactic(auto, using(crate::proofs::RowSteps::free_more))]
-    pub fn free(alloc: Global, width: u16) -> Result<Row, Memory>
-        ensures { IfOk result (λ r. r ≡ spec.free width) }
+    #[tactic(auto, using(crate::proofs::RowSteps::unbound_more))]
+    pub fn unbound(alloc: Global, width: u16) -> Result<Row, Memory>
+        ensures { IfOk result (λ r. r ≡ spec.unbound width) }
     {
         let mut cells = Vec::new(alloc);
         for _variable in 0..width {
@@ -106,7 +106,7 @@ fn project_cells(
 }
 
 fn copy_cell_at(cells: &[Option<Term>], var: usize) -> Result<Option<Term>, Memory>
-    ensures { IfOk result (λ c. c ≡ spec.cell_or_free (slice_get cells.now var)) }
+    ensures { IfOk result (λ c. c ≡ spec.cell_or_unbound (slice_get cells.now var)) }
 {
     if var < cells.len() {
         copy_cell(&cells[var])

@@ -1,11 +1,11 @@
 -- Each entry of a record is counted once by the totals of its report.
 use Rattle.std.proofs.Common.{ℕ, suc, ◌≡◌, ◌+◌, cond, List, [], ◌∷◌, refl, arith, length}
 use Rattle.std.proofs.lemmas.List.Sums.{sum_by-cons}
-use Rattle.reach_terms.specs.declared.outcome.Outcome.TheVariants.{Document, Moved, Refused}
-use Rattle.reach_terms.specs.declared.record.Found.{Found}
-use Rattle.reach_terms.specs.declared.record.Found.TheVariants.{Outcome as Told, Unreachable}
-use Rattle.reach_terms.specs.declared.record.Entry.{Entry}
-use Rattle.reach_terms.specs.Reach.{Text}
+use Rattle.reachability.specs.declared.outcome.Outcome.TheVariants.{Document, Moved, Refused}
+use Rattle.reachability.specs.declared.record.Found.{Found}
+use Rattle.reachability.specs.declared.record.Found.TheVariants.{Outcome as Told, Unreachable}
+use Rattle.reachability.specs.declared.record.Entry.{Entry}
+use Rattle.reachability.specs.Reach.{Text}
 use Rattle.run_report.specs.Report.{is_document, is_moved, documents, redirects, failures}
 
 one_more : (link : Text) (found : Found) (es : List Entry) → length es ≡ documents es + (redirects es + length (failures es))

@@ -1,7 +1,7 @@
 -- A failure among the entries.
 use Rattle.std.proofs.Common.{◌≡◌, ◌≢◌, ℕ, ◌+◌, ◌<◌, ◌≤◌, List, [], Option, Some, None, length, get_or, refl, ap, arith}
 use Rattle.std.proofs.lemmas.List.Folds.{length-flat_map-take}
-use Rattle.reach_terms.specs.declared.record.Entry.{Entry}
+use Rattle.reachability.specs.declared.record.Entry.{Entry}
 use Rattle.run_report.specs.Report.{failure_with, failure_of, failure_text, failures}
 
 one_failure : (link : List ℕ) (cause : Option (List ℕ)) → cause ≢ None → length (failure_with link cause) ≡ 1

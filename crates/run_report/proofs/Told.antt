@@ -2,12 +2,12 @@
 use Rattle.std.proofs.Common.{ℕ, ◌≡◌, ◌≢◌, ◌⊎◌, List, [], ◌∷◌, ◌++◌, Option, Some, None, inl, inr, refl, sym, ap, subst}
 use Rattle.std.specs.Prelude.{map, ◌↔◌}
 use Rattle.rdf_terms.specs.Lists.{IsIn}
-use Rattle.reach_terms.specs.declared.outcome.Outcome.TheVariants.{Document, Moved, Refused}
-use Rattle.reach_terms.specs.declared.record.Found.{Found}
-use Rattle.reach_terms.specs.declared.record.Found.TheVariants.{Outcome as Told, Unreachable}
-use Rattle.reach_terms.specs.declared.record.Entry.{Entry}
-use Rattle.reach_terms.specs.Reach.{Text}
-use Rattle.reach_terms.specs.Record.{FailedLinks}
+use Rattle.reachability.specs.declared.outcome.Outcome.TheVariants.{Document, Moved, Refused}
+use Rattle.reachability.specs.declared.record.Found.{Found}
+use Rattle.reachability.specs.declared.record.Found.TheVariants.{Outcome as Told, Unreachable}
+use Rattle.reachability.specs.declared.record.Entry.{Entry}
+use Rattle.reachability.specs.Reach.{Text}
+use Rattle.reachability.specs.Record.{FailedLinks}
 use Rattle.run_report.specs.declared.failures.Failure.{Failure}
 use Rattle.run_report.specs.Report.{failure_with, failure_text, failures, failed_link}
 

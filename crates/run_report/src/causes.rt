@@ -2,7 +2,7 @@ ghost use Rattle.std.specs.Prelude.{◌≡◌, ◌++◌, IfOk, codes, decimal, S
 ghost use Rattle.run_report.specs.Report as spec;
 
 use rdf_terms::{ByteBuf, Memory};
-use reach_terms::{Cause, Found, Outcome, Why};
+use reachability::{Cause, Found, Outcome, Why};
 use std::alloc::Global;
 
 // A word and its number.

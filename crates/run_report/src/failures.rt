@@ -5,7 +5,7 @@ ghost use Rattle.run_report.specs.Report as spec;
 
 use crate::causes::failure_text;
 use rdf_terms::{ByteBuf, Memory, TextBuf};
-use reach_terms::{Entry, Found, Outcome};
+use reachability::{Entry, Found, Outcome};
 use std::alloc::Global;
 
 /// A link that failed, and the cause as it is written.

@@ -1,8 +1,8 @@
 ghost use Rattle.std.specs.Prelude.{◌≡◌, ◌↔◌, ◌+◌, List, [], length, map};
 ghost use Rattle.rdf_terms.specs.Lists.{IsIn};
-ghost use Rattle.reach_terms.specs.declared.record.Entry.{Entry};
-ghost use Rattle.reach_terms.specs.Reach.{Text};
-ghost use Rattle.reach_terms.specs.Record.{FailedLinks};
+ghost use Rattle.reachability.specs.declared.record.Entry.{Entry};
+ghost use Rattle.reachability.specs.Reach.{Text};
+ghost use Rattle.reachability.specs.Record.{FailedLinks};
 ghost use Rattle.run_report.specs.Report.{documents, redirects, failures, failed_link};
 
 /// A report has a line for each link of the record that was refused or couldn't be reached, and for

@@ -4,7 +4,7 @@ ghost use Rattle.run_report.specs.Report.{IsReport};
 use crate::failures::{failures_of, lines_of, rank};
 use crate::totals::push_totals;
 use rdf_terms::{ByteBuf, Memory};
-use reach_terms::Record;
+use reachability::Record;
 use std::alloc::Global;
 
 /// The report of a record under a code: a line for each failed link, by ascending link text, and

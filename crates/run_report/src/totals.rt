@@ -3,7 +3,7 @@ ghost use Rattle.run_report.specs.Report as spec;
 
 use crate::causes::numbered;
 use rdf_terms::{ByteBuf, Memory};
-use reach_terms::{Entry, Found, Outcome, Record};
+use reachability::{Entry, Found, Outcome, Record};
 use std::alloc::Global;
 
 fn is_document(found: &Found) -> bool

@@ -3,8 +3,8 @@ use Rattle.std.proofs.Common.{◌≡◌, ℕ, ◌+◌, ◌-◌, ◌<◌, ◌≤�
 use Rattle.std.specs.Prelude.{true}
 use Rattle.std.proofs.lemmas.Bool.{cond-true}
 use Rattle.std.proofs.lemmas.List.{length-replicate}
-use Rattle.site_core.specs.declared.spot.Spot.{Spot}
-use Rattle.site_core.specs.declared.spot.Spot.TheVariants.{First, Between}
+use Rattle.site_core.specs.declared.expected.Expected.{Expected}
+use Rattle.site_core.specs.declared.expected.Expected.TheVariants.{First, Between}
 use Rattle.site_core.specs.Endings.{IsCutBody, LeadsTo}
 use Rattle.site_core.specs.Places.{Answer, BeyondAt, FaultAt, Look, On, Reads, SiteBad, is_lf_at, look, look_body, look_step, reads_end, reads_on}
 use Rattle.site_core.specs.Text.{Entry, SiteText, is_site_from, site_limit, site_text}
@@ -30,9 +30,9 @@ none_shown front a b more full here later apart =
     )
 
 -- a body with zeros up to its size, and its line's end
-look_filled : (done : List Entry) (spot : Spot) (at : ℕ) (rest : List ℕ) (cut : IsCutBody done spot rest) → (n : ℕ) → n ≡ cut.size - length (drop (suc cut.line) rest)
-    → (new : List Entry) × (look done spot at (rest ++ (replicate n 0 ++ 10 ∷ [])) ≡ On new Between (at + suc cut.line + suc cut.size) [])
-look_filled done spot at rest cut n is =
+look_filled : (done : List Entry) (expected : Expected) (at : ℕ) (rest : List ℕ) (cut : IsCutBody done expected rest) → (n : ℕ) → n ≡ cut.size - length (drop (suc cut.line) rest)
+    → (new : List Entry) × (look done expected at (rest ++ (replicate n 0 ++ 10 ∷ [])) ≡ On new Between (at + suc cut.line + suc cut.size) [])
+look_filled done expected at rest cut n is =
     let behind = drop (suc cut.line) rest in
     let more : List ℕ = replicate n 0 ++ 10 ∷ [] in
     let body = behind ++ replicate n 0 in
@@ -41,7 +41,7 @@ look_filled done spot at rest cut n is =
     let sized : length body ≡ cut.size = (let short = cut.short in omega (arith, length-append behind (replicate n 0), length-replicate {A = ℕ} n 0)) in
     let size_of : ℕ → Look = λ k. look_body done at at_body (body ++ 10 ∷ []) cut.link cut.reply k in (
       done ++ (cut.link, record cut.reply { body = take (length body) (body ++ 10 ∷ []) }) ∷ [],
-      look-more done spot at rest more cut.line cut.ends
+      look-more done expected at rest more cut.line cut.ends
           ∙ ap (look_step done at at_body (behind ++ more)) cut.body
           ∙ ap (λ bs. look_body done at at_body bs cut.link cut.reply cut.size) whole
           ∙ ap size_of (sym sized)
@@ -50,15 +50,15 @@ look_filled done spot at rest cut n is =
           ∙ ap (λ k. On (done ++ (cut.link, record cut.reply { body = take (length body) (body ++ 10 ∷ []) }) ∷ []) Between (at_body + suc k) []) sized,
     )
 
-pub beyond_cut : (front : List ℕ) (done : List Entry) (spot : Spot) (at : ℕ) → length front ≡ site_limit → LeadsTo front done spot at → IsCutBody done spot (drop at front) → BeyondAt front (length front)
-beyond_cut front done spot at full leads cut =
+pub beyond_cut : (front : List ℕ) (done : List Entry) (expected : Expected) (at : ℕ) → length front ≡ site_limit → LeadsTo front done expected at → IsCutBody done expected (drop at front) → BeyondAt front (length front)
+beyond_cut front done expected at full leads cut =
     let rest = drop at front in
     let n = cut.size - length (drop (suc cut.line) rest) in
     let more : List ℕ = replicate n 0 ++ 10 ∷ [] in
     let later = at + suc cut.line + suc cut.size in
-    let filled = look_filled done spot at rest cut n refl in
+    let filled = look_filled done expected at rest cut n refl in
     none_shown front at later more full
-    (leads_bad front done spot at leads (cut_bad done spot at rest cut))
+    (leads_bad front done expected at leads (cut_bad done expected at rest cut))
     (leads more (Err later) (reads_on filled.1 (reads_end refl)))
     (omega arith)
 

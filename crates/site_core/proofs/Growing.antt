@@ -10,11 +10,11 @@ use Rattle.std.proofs.lemmas.Option.{cond_some, option_and_then_some}
 use Rattle.std.proofs.lemmas.List.Folds.{list_all-append}
 use Rattle.std.proofs.lemmas.Slice.Eq.{bytes_eq-Decides}
 use Rattle.link_uri.specs.declared.heard.Reply.{Reply}
-use Rattle.site_core.specs.declared.spot.Field.{Field}
-use Rattle.site_core.specs.declared.spot.Field.TheVariants.{Media, Coding, Location, Size}
-use Rattle.site_core.specs.declared.spot.Spot.{Spot}
-use Rattle.site_core.specs.declared.spot.Spot.TheVariants.{First, Between, Named, Headed}
-use Rattle.site_core.specs.declared.spot.Step.TheVariants.{Misfit, Next, Finished, Body}
+use Rattle.site_core.specs.declared.expected.Field.{Field}
+use Rattle.site_core.specs.declared.expected.Field.TheVariants.{Media, Coding, Location, Size}
+use Rattle.site_core.specs.declared.expected.Expected.{Expected}
+use Rattle.site_core.specs.declared.expected.Expected.TheVariants.{First, Between, Named, Headed}
+use Rattle.site_core.specs.declared.expected.Step.TheVariants.{Misfit, Next, Finished, Body}
 use Rattle.site_core.specs.Fields.{behind, is_digit, is_lf, is_number, is_printable, is_status, is_value, number_of}
 use Rattle.site_core.specs.Growth.{CanGrow, CannotGrow, begins, field_grows, is_hundred, is_status_of, number_begins, rest_grows, status_begins, value_begins, word_grows}
 use Rattle.site_core.specs.Lines.{bare, field_of, step, with_field, with_link, with_status}
@@ -31,28 +31,28 @@ use Rattle.site_core.proofs.Sound.{behind_is, field_is}
 -- ---- what it takes
 
 -- a whole line that begins with the part and is allowed
-pub grows_to : (done : List Entry) (spot next : Spot) (part more : List ℕ) → is_plain (part ++ more) ≡ true → step done spot (part ++ more) ≡ Next next → CanGrow done spot part
-grows_to done spot next part more plain leads =
+pub grows_to : (done : List Entry) (expected next : Expected) (part more : List ℕ) → is_plain (part ++ more) ≡ true → step done expected (part ++ more) ≡ Next next → CanGrow done expected part
+grows_to done expected next part more plain leads =
     let line = part ++ more in
     let whole : part ++ (more ++ 10 ∷ []) ≡ ended line ++ [] = sym (append_assoc part more (10 ∷ [])) ∙ sym (append-nil (ended line)) in
-    let P : ℕ → List ℕ → Type 0 = λ at bs. Reads done spot at bs (Err (at + suc (length line))) in (
+    let P : ℕ → List ℕ → Type 0 = λ at bs. Reads done expected at bs (Err (at + suc (length line))) in (
       more ++ 10 ∷ [],
       λ at. (
         Err (at + suc (length line)),
-        subst (λ (bs : List ℕ). P at bs) (sym whole) (reads_on (look-line done spot at line [] plain ∙ ap (look_step done at (at + suc (length line)) []) leads) (reads_end refl)),
+        subst (λ (bs : List ℕ). P at bs) (sym whole) (reads_on (look-line done expected at line [] plain ∙ ap (look_step done at (at + suc (length line)) []) leads) (reads_end refl)),
         λ same. (let e : at + suc (length line) ≡ at = cc in omega arith),
       ),
     )
 
-pub grows_to_end : (done : List Entry) (spot : Spot) (part more : List ℕ) → is_plain (part ++ more) ≡ true → step done spot (part ++ more) ≡ Finished → CanGrow done spot part
-grows_to_end done spot part more plain ends =
+pub grows_to_end : (done : List Entry) (expected : Expected) (part more : List ℕ) → is_plain (part ++ more) ≡ true → step done expected (part ++ more) ≡ Finished → CanGrow done expected part
+grows_to_end done expected part more plain ends =
     let line = part ++ more in
     let whole : part ++ (more ++ 10 ∷ []) ≡ ended line ++ [] = sym (append_assoc part more (10 ∷ [])) ∙ sym (append-nil (ended line)) in
-    let P : ℕ → List ℕ → Type 0 = λ at bs. Reads done spot at bs (Ok done) in (
+    let P : ℕ → List ℕ → Type 0 = λ at bs. Reads done expected at bs (Ok done) in (
       more ++ 10 ∷ [],
       λ at. (
         Ok done,
-        subst (λ (bs : List ℕ). P at bs) (sym whole) (reads_end (look-line done spot at line [] plain ∙ ap (look_step done at (at + suc (length line)) []) ends)),
+        subst (λ (bs : List ℕ). P at bs) (sym whole) (reads_end (look-line done expected at line [] plain ∙ ap (look_step done at (at + suc (length line)) []) ends)),
         λ same. (cc),
       ),
     )
@@ -134,12 +134,12 @@ between_stays done part no_end no_link none more =
     ∙ ap (with_link done) (none_behind (codes "link ") part more no_link none)
 
 -- what a test of the part says
-abbrev pub Tells : List Entry → Spot → List ℕ → Bool → Type 0
-Tells done spot part grows = MatchBool grows (CanGrow done spot part) (CannotGrow done spot part)
+abbrev pub Tells : List Entry → Expected → List ℕ → Bool → Type 0
+Tells done expected part grows = MatchBool grows (CanGrow done expected part) (CannotGrow done expected part)
 
-pub tells : (done : List Entry) (spot : Spot) (part : List ℕ) (grows : Bool) → (grows ≡ true → CanGrow done spot part) → (grows ≡ false → CannotGrow done spot part) → Tells done spot part grows
-tells done spot part true yes_ no_ = yes_ refl
-tells done spot part false yes_ no_ = no_ refl
+pub tells : (done : List Entry) (expected : Expected) (part : List ℕ) (grows : Bool) → (grows ≡ true → CanGrow done expected part) → (grows ≡ false → CannotGrow done expected part) → Tells done expected part grows
+tells done expected part true yes_ no_ = yes_ refl
+tells done expected part false yes_ no_ = no_ refl
 
 pub first_tells : (done : List Entry) (part : List ℕ) → Tells done First part (begins (codes "site 1") part)
 first_tells done part = tells done First part (begins (codes "site 1") part) (first_grows done part) (first_stays done part)
@@ -480,8 +480,8 @@ value_goes done link part word reply wrap plain leads b is goes =
       | inr passed ↦ value_rest_goes done link part word reply wrap plain leads b is passed
     ]
 
-pub body_grows_to : (done : List Entry) (link : List ℕ) (spot : Spot) (reply : Reply) (part more : List ℕ) (n : ℕ) → is_plain (part ++ more) ≡ true → step done spot (part ++ more) ≡ Body link reply n → CanGrow done spot part
-body_grows_to done link spot reply part more n plain steps =
+pub body_grows_to : (done : List Entry) (link : List ℕ) (expected : Expected) (reply : Reply) (part more : List ℕ) (n : ℕ) → is_plain (part ++ more) ≡ true → step done expected (part ++ more) ≡ Body link reply n → CanGrow done expected part
+body_grows_to done link expected reply part more n plain steps =
     let line : List ℕ = part ++ more in
     let body : List ℕ = replicate n 0 in
     let filled : List ℕ = body ++ 10 ∷ [] in
@@ -491,13 +491,13 @@ body_grows_to done link spot reply part more n plain steps =
       λ at.
           let next : ℕ = at + suc (length line) in
           let entry : ℕ → Entry = λ k. (link, record reply { body = take k filled }) in
-          let here : look done spot at (ended line ++ filled) ≡ On (done ++ entry (length body) ∷ []) Between (next + suc (length body)) [] =
-          look-line done spot at line filled plain
+          let here : look done expected at (ended line ++ filled) ≡ On (done ++ entry (length body) ∷ []) Between (next + suc (length body)) [] =
+          look-line done expected at line filled plain
           ∙ ap (look_step done at next filled) steps
           ∙ ap (λ k. look_body done at next filled link reply k) (sym sized)
           ∙ cond-true (is_lf_at filled (length body)) (On (done ++ entry (length body) ∷ []) Between (next + suc (length body)) (drop (suc (length body)) filled)) (Answer (Err at)) (lf_behind body [])
           ∙ ap (On (done ++ entry (length body) ∷ []) Between (next + suc (length body))) (drop_line body [] 10) in
-          let P : List ℕ → Type 0 = λ bs. Reads done spot at bs (Err (next + suc (length body))) in
+          let P : List ℕ → Type 0 = λ bs. Reads done expected at bs (Err (next + suc (length body))) in
           (Err (next + suc (length body)), subst P (sym whole) (reads_on here (reads_end refl)), λ same. (let e : next + suc (length body) ≡ at = cc in omega arith)),
     )
 

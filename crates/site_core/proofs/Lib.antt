@@ -11,7 +11,10 @@ pub mod Growing
 pub mod ParsedUrls
 pub mod Spelled
 pub mod Cuts
-pub mod AddressCuts
+pub mod AddressPrefixes
 pub mod LinkCuts
 pub mod LinkGrowth
 pub mod OpenLines
+pub mod LinksOfBytes
+pub mod Hosts
+pub mod ServedLemmas

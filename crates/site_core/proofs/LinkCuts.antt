@@ -29,7 +29,7 @@ use Rattle.site_core.specs.Growth.{endings, ends_in_link}
 use Rattle.site_core.proofs.ParsedUrls.{http}
 use Rattle.site_core.proofs.Spelled.{Spelled, port_piece, query_piece, site_link_spelled, spelled_site_link}
 use Rattle.site_core.proofs.Cuts.{division, unsnoc, tilde, path_on, query_on, domain_on, number_part}
-use Rattle.site_core.proofs.AddressCuts.{Closes, IsEnding, IsOne, address_part}
+use Rattle.site_core.proofs.AddressPrefixes.{Closes, IsEnding, IsOne, address_part}
 
 one_of : (test : List ℕ → Bool) (xs : List (List ℕ)) (e : List ℕ) → IsOne xs e → test e ≡ true → list_any test xs ≡ true
 one_of test [] e is holds = absurd is

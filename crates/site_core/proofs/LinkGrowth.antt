@@ -10,8 +10,8 @@ use Rattle.std.specs.Ordering.{nat_cmp, is_lt, ordering_then}
 use Rattle.std.proofs.lemmas.Option.{same_Some}
 use Rattle.std.proofs.lemmas.Bool.{and_parts, and_from, cases_Bool, cond-true, cond-false, or_cases, or_parts}
 use Rattle.std.proofs.lemmas.Bool.Decides.{nat_tests}
-use Rattle.site_core.specs.declared.spot.Spot.TheVariants.{Between, Named}
-use Rattle.site_core.specs.declared.spot.Step.TheVariants.{Misfit, Next}
+use Rattle.site_core.specs.declared.expected.Expected.TheVariants.{Between, Named}
+use Rattle.site_core.specs.declared.expected.Step.TheVariants.{Misfit, Next}
 use Rattle.site_core.specs.Fields.{behind, is_lf, is_site_link, is_visible, is_own_http}
 use Rattle.link_uri.specs.Links.{link_of}
 use Rattle.site_core.specs.Growth.{CanGrow, CannotGrow, begins, begins_last, endings, ends_in_link, link_grows}

@@ -1,18 +1,18 @@
 -- Bytes are one site text or have one first fault, and never both.
 use Rattle.std.proofs.Common.{◌≡◌, ℕ, ◌^◌, ◌<◌, List, [], length, take, Result, Ok, refl, sym, ◌∙◌, subst, arith, append-nil, inl, inr}
-use Rattle.site_core.specs.declared.spot.Spot.{Spot}
-use Rattle.site_core.specs.declared.spot.Spot.TheVariants.{First}
+use Rattle.site_core.specs.declared.expected.Expected.{Expected}
+use Rattle.site_core.specs.declared.expected.Expected.TheVariants.{First}
 use Rattle.site_core.specs.Places.{BeyondAt, FaultAt, Reads, Shows, SiteBad, reads_end, reads_on}
 use Rattle.site_core.specs.Text.{Entry, SiteText, site_limit}
 use Rattle.site_core.proofs.Printed.{reads_site}
 
-one_answer_at : {done done' : List Entry} {spot spot' : Spot} {at at' : ℕ} {rest rest' : List ℕ} {a b : Result (List Entry) ℕ} → Reads done spot at rest a → done' ≡ done → spot' ≡ spot → at' ≡ at → rest' ≡ rest → Reads done' spot' at' rest' b → a ≡ b
+one_answer_at : {done done' : List Entry} {expected spot' : Expected} {at at' : ℕ} {rest rest' : List ℕ} {a b : Result (List Entry) ℕ} → Reads done expected at rest a → done' ≡ done → spot' ≡ expected → at' ≡ at → rest' ≡ rest → Reads done' spot' at' rest' b → a ≡ b
 one_answer_at (reads_end e) same_done same_spot same_at same_rest (reads_end f) = cc
 one_answer_at (reads_end e) same_done same_spot same_at same_rest (reads_on f reads) = absurd cc
 one_answer_at (reads_on e reads) same_done same_spot same_at same_rest (reads_end f) = absurd cc
 one_answer_at (reads_on e reads) same_done same_spot same_at same_rest (reads_on f others) = one_answer_at reads (cc) (cc) (cc) (cc) others
 
-pub one_answer : {done : List Entry} {spot : Spot} {at : ℕ} {rest : List ℕ} {a b : Result (List Entry) ℕ} → Reads done spot at rest a → Reads done spot at rest b → a ≡ b
+pub one_answer : {done : List Entry} {expected : Expected} {at : ℕ} {rest : List ℕ} {a b : Result (List Entry) ℕ} → Reads done expected at rest a → Reads done expected at rest b → a ≡ b
 one_answer reads others = one_answer_at reads refl refl refl refl others
 
 -- a site text is read as its site

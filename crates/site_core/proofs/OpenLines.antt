@@ -6,7 +6,7 @@ use Rattle.std.proofs.lemmas.Bool.{and_parts, cases_lt, cond_below}
 use Rattle.std.proofs.lemmas.List.{get_or_append_left, take_all}
 use Rattle.std.proofs.lemmas.List.Quantifiers.{position-Some}
 use Rattle.std.proofs.Math.Seq.{take-append-add}
-use Rattle.site_core.specs.declared.spot.Spot.{Spot}
+use Rattle.site_core.specs.declared.expected.Expected.{Expected}
 use Rattle.site_core.specs.Endings.{LeadsTo}
 use Rattle.site_core.specs.Fields.{is_lf}
 use Rattle.site_core.specs.Growth.{CanGrow, CannotGrow}
@@ -43,23 +43,23 @@ behind_part part more n none found =
       | inr above ↦ above
     ]
 
-misfit_look : (done : List Entry) (spot : Spot) (at : ℕ) (part more : List ℕ) → position is_lf part ≡ None → CannotGrow done spot part → (found : Option ℕ) → position is_lf (part ++ more) ≡ found → look done spot at (part ++ more) ≡ Answer (Err at)
-misfit_look done spot at part more none stays None found = unended_bad done spot at (part ++ more) found
-misfit_look done spot at part more none stays (Some n) found =
+misfit_look : (done : List Entry) (expected : Expected) (at : ℕ) (part more : List ℕ) → position is_lf part ≡ None → CannotGrow done expected part → (found : Option ℕ) → position is_lf (part ++ more) ≡ found → look done expected at (part ++ more) ≡ Answer (Err at)
+misfit_look done expected at part more none stays None found = unended_bad done expected at (part ++ more) found
+misfit_look done expected at part more none stays (Some n) found =
     let above = behind_part part more n none found in
     let k = n - length part in
     let parts : n ≡ length part + k = omega (arith, above) in
     let line : take n (part ++ more) ≡ part ++ take k more = ap (λ m. take m (part ++ more)) parts ∙ take-append-add part more k in
-    ap (look_line done spot at (part ++ more)) found
-    ∙ ap (look_step done at (at + suc n) (drop (suc n) (part ++ more))) (ap (step done spot) line ∙ stays (take k more))
+    ap (look_line done expected at (part ++ more)) found
+    ∙ ap (look_step done at (at + suc n) (drop (suc n) (part ++ more))) (ap (step done expected) line ∙ stays (take k more))
 
-shown_open : (front : List ℕ) (done : List Entry) (spot : Spot) (at : ℕ) → LeadsTo front done spot at → position is_lf (drop at front) ≡ None → CannotGrow done spot (drop at front) → Shows front at
-shown_open front done spot at leads none stays more =
-    leads more (Err at) (reads_end (misfit_look done spot at (drop at front) more none stays (position is_lf (drop at front ++ more)) refl))
+shown_open : (front : List ℕ) (done : List Entry) (expected : Expected) (at : ℕ) → LeadsTo front done expected at → position is_lf (drop at front) ≡ None → CannotGrow done expected (drop at front) → Shows front at
+shown_open front done expected at leads none stays more =
+    leads more (Err at) (reads_end (misfit_look done expected at (drop at front) more none stays (position is_lf (drop at front ++ more)) refl))
 
-none_open : (front : List ℕ) (done : List Entry) (spot : Spot) (at : ℕ) → length front ≡ site_limit → LeadsTo front done spot at → position is_lf (drop at front) ≡ None → CanGrow done spot (drop at front) → BeyondAt front (length front)
-none_open front done spot at full leads none grows =
-    let here = leads_bad front done spot at leads (unended_bad done spot at (drop at front) none) in
+none_open : (front : List ℕ) (done : List Entry) (expected : Expected) (at : ℕ) → length front ≡ site_limit → LeadsTo front done expected at → position is_lf (drop at front) ≡ None → CanGrow done expected (drop at front) → BeyondAt front (length front)
+none_open front done expected at full leads none grows =
+    let here = leads_bad front done expected at leads (unended_bad done expected at (drop at front) none) in
     let other = grows.1 at in
     inr (
       full,
@@ -69,18 +69,18 @@ none_open front done spot at full leads none grows =
           other.2 (cc),
     )
 
-pub open_grows : (front : List ℕ) (done : List Entry) (spot : Spot) (at : ℕ) → length front ≡ site_limit → LeadsTo front done spot at → position is_lf (drop at front) ≡ None → Tells done spot (drop at front) true → BeyondAt front (length front)
-open_grows front done spot at full leads none grows = none_open front done spot at full leads none grows
+pub open_grows : (front : List ℕ) (done : List Entry) (expected : Expected) (at : ℕ) → length front ≡ site_limit → LeadsTo front done expected at → position is_lf (drop at front) ≡ None → Tells done expected (drop at front) true → BeyondAt front (length front)
+open_grows front done expected at full leads none grows = none_open front done expected at full leads none grows
 
-pub open_stays : (front : List ℕ) (done : List Entry) (spot : Spot) (at place : ℕ) → place ≡ at → LeadsTo front done spot at → position is_lf (drop at front) ≡ None → Tells done spot (drop at front) false → BeyondAt front place
-open_stays front done spot at place is leads none stays =
+pub open_stays : (front : List ℕ) (done : List Entry) (expected : Expected) (at place : ℕ) → place ≡ at → LeadsTo front done expected at → position is_lf (drop at front) ≡ None → Tells done expected (drop at front) false → BeyondAt front place
+open_stays front done expected at place is leads none stays =
     let P : ℕ → Type 0 = λ k. BeyondAt front k in
-    subst P (sym is) (inl (shown_open front done spot at leads none stays))
+    subst P (sym is) (inl (shown_open front done expected at leads none stays))
 
 -- what the test told, of the bytes as the code has them
-pub open_at : (done seen : List Entry) (spot : Spot) (part seen_part : List ℕ) (grows is : Bool) → seen ≡ done → seen_part ≡ part → grows ≡ is → Tells seen spot seen_part grows → Tells done spot part is
-open_at done seen spot part seen_part grows is same_done same_part same told =
-    let P : List Entry → Type 0 = λ ds. Tells ds spot seen_part grows in
-    let Q : List ℕ → Type 0 = λ bs. Tells done spot bs grows in
-    let R : Bool → Type 0 = λ b. Tells done spot part b in
+pub open_at : (done seen : List Entry) (expected : Expected) (part seen_part : List ℕ) (grows is : Bool) → seen ≡ done → seen_part ≡ part → grows ≡ is → Tells seen expected seen_part grows → Tells done expected part is
+open_at done seen expected part seen_part grows is same_done same_part same told =
+    let P : List Entry → Type 0 = λ ds. Tells ds expected seen_part grows in
+    let Q : List ℕ → Type 0 = λ bs. Tells done expected bs grows in
+    let R : Bool → Type 0 = λ b. Tells done expected part b in
     subst R same (subst Q same_part (subst P same_done told))

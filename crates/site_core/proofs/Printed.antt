@@ -5,10 +5,10 @@ use Rattle.std.specs.List.{list_all, flat_map}
 use Rattle.std.proofs.lemmas.Bool.{and_parts, and_from, cond-true}
 use Rattle.std.proofs.lemmas.Bool.Decides.{nat_tests}
 use Rattle.link_uri.specs.declared.heard.Reply.{Reply}
-use Rattle.site_core.specs.declared.spot.Spot.{Spot}
-use Rattle.site_core.specs.declared.spot.Spot.TheVariants.{First, Between, Named, Headed}
-use Rattle.site_core.specs.declared.spot.Step.TheVariants.{Misfit, Next}
-use Rattle.site_core.specs.declared.spot.Field.TheVariants.{Media, Coding, Location, Size}
+use Rattle.site_core.specs.declared.expected.Expected.{Expected}
+use Rattle.site_core.specs.declared.expected.Expected.TheVariants.{First, Between, Named, Headed}
+use Rattle.site_core.specs.declared.expected.Step.TheVariants.{Misfit, Next}
+use Rattle.site_core.specs.declared.expected.Field.TheVariants.{Media, Coding, Location, Size}
 use Rattle.site_core.specs.Fields.{is_lf, is_digit, is_printable, is_site_link, is_status, is_value, is_visible}
 use Rattle.site_core.specs.Lines.{bare, field_of, last_link, step, with_field, with_status}
 use Rattle.site_core.specs.Places.{Answer, Look, On, Reads, is_lf_at, look, look_line, look_step, reads_end, reads_on}
@@ -18,19 +18,19 @@ use Rattle.site_core.proofs.Numbers.{digits-decimal, number_of-decimal}
 
 -- ---- one line
 
-pub look-line : (done : List Entry) (spot : Spot) (at : ℕ) (line rest : List ℕ) → is_plain line ≡ true → look done spot at (ended line ++ rest) ≡ look_step done at (at + suc (length line)) rest (step done spot line)
-look-line done spot at line rest plain =
+pub look-line : (done : List Entry) (expected : Expected) (at : ℕ) (line rest : List ℕ) → is_plain line ≡ true → look done expected at (ended line ++ rest) ≡ look_step done at (at + suc (length line)) rest (step done expected line)
+look-line done expected at line rest plain =
     let whole : ended line ++ rest ≡ line ++ 10 ∷ rest = append_assoc line (10 ∷ []) rest in
-    let P : List ℕ → Type 0 = λ bs. look done spot at bs ≡ look_step done at (at + suc (length line)) rest (step done spot line) in
+    let P : List ℕ → Type 0 = λ bs. look done expected at bs ≡ look_step done at (at + suc (length line)) rest (step done expected line) in
     subst P (sym whole)
-    (ap (look_line done spot at (line ++ 10 ∷ rest)) (position-plain line rest plain)
-    ∙ ap (λ bs. look_step done at (at + suc (length line)) bs (step done spot (take (length line) (line ++ 10 ∷ rest)))) (drop_line line rest 10)
-    ∙ ap (λ bs. look_step done at (at + suc (length line)) rest (step done spot bs)) (take_front line (10 ∷ rest)))
+    (ap (look_line done expected at (line ++ 10 ∷ rest)) (position-plain line rest plain)
+    ∙ ap (λ bs. look_step done at (at + suc (length line)) bs (step done expected (take (length line) (line ++ 10 ∷ rest)))) (drop_line line rest 10)
+    ∙ ap (λ bs. look_step done at (at + suc (length line)) rest (step done expected bs)) (take_front line (10 ∷ rest)))
 
 -- a line leads on to the next spot
-pub reads_line : {done : List Entry} {spot next : Spot} {at : ℕ} (line : List ℕ) {rest : List ℕ} {answer : Result (List Entry) ℕ} → is_plain line ≡ true → step done spot line ≡ Next next → Reads done next (at + suc (length line)) rest answer → Reads done spot at (ended line ++ rest) answer
-reads_line {done} {spot} {next} {at} line {rest} {answer} plain leads reads =
-    reads_on (look-line done spot at line rest plain ∙ ap (look_step done at (at + suc (length line)) rest) leads) reads
+pub reads_line : {done : List Entry} {expected next : Expected} {at : ℕ} (line : List ℕ) {rest : List ℕ} {answer : Result (List Entry) ℕ} → is_plain line ≡ true → step done expected line ≡ Next next → Reads done next (at + suc (length line)) rest answer → Reads done expected at (ended line ++ rest) answer
+reads_line {done} {expected} {next} {at} line {rest} {answer} plain leads reads =
+    reads_on (look-line done expected at line rest plain ∙ ap (look_step done at (at + suc (length line)) rest) leads) reads
 
 -- ---- which lines are plain
 

@@ -8,12 +8,12 @@ use Rattle.std.proofs.lemmas.Option.{option_and_then_some, same_Some, cond_some}
 use Rattle.std.proofs.lemmas.Slice.Eq.{bytes_eq-Decides}
 use Rattle.std.proofs.lemmas.List.{take-append-drop, length-take-le}
 use Rattle.link_uri.specs.declared.heard.Reply.{Reply}
-use Rattle.site_core.specs.declared.spot.Spot.{Spot}
-use Rattle.site_core.specs.declared.spot.Spot.TheVariants.{First, Between, Named, Headed}
-use Rattle.site_core.specs.declared.spot.Step.{Step}
-use Rattle.site_core.specs.declared.spot.Step.TheVariants.{Misfit, Next, Finished, Body}
-use Rattle.site_core.specs.declared.spot.Field.{Field}
-use Rattle.site_core.specs.declared.spot.Field.TheVariants.{Media, Coding, Location, Size}
+use Rattle.site_core.specs.declared.expected.Expected.{Expected}
+use Rattle.site_core.specs.declared.expected.Expected.TheVariants.{First, Between, Named, Headed}
+use Rattle.site_core.specs.declared.expected.Step.{Step}
+use Rattle.site_core.specs.declared.expected.Step.TheVariants.{Misfit, Next, Finished, Body}
+use Rattle.site_core.specs.declared.expected.Field.{Field}
+use Rattle.site_core.specs.declared.expected.Field.TheVariants.{Media, Coding, Location, Size}
 use Rattle.site_core.specs.Fields.{behind, is_lf, is_site_link, is_status, is_value, number_of}
 use Rattle.site_core.specs.Lines.{bare, field_of, last_link, step, value_behind, with_field, with_link, with_status}
 use Rattle.site_core.specs.Places.{Answer, Look, On, Reads, is_lf_at, look, look_behind, look_body, look_line, look_step, reads_end, reads_on}
@@ -24,13 +24,13 @@ use Rattle.site_core.proofs.Printed.{final_small}
 
 -- ---- what has been read at a spot
 
-abbrev pub printed : List Entry → Spot → List ℕ
+abbrev pub printed : List Entry → Expected → List ℕ
 printed done First = []
 printed done Between = ended (codes "site 1") ++ flat_map block_text done
 printed done (Named link) = (ended (codes "site 1") ++ flat_map block_text done) ++ ended (codes "link " ++ link)
 printed done (Headed link reply) = (ended (codes "site 1") ++ flat_map block_text done) ++ (ended (codes "link " ++ link) ++ head_text reply)
 
-abbrev pub Fits : List Entry → Spot → Type 0
+abbrev pub Fits : List Entry → Expected → Type 0
 Fits done First = done ≡ []
 Fits done Between = is_site_from None done ≡ true
 Fits done (Named link) = (is_site_from None done ≡ true) × (comes_after (last_link None done) link ≡ true) × (is_site_link link ≡ true)
@@ -89,11 +89,11 @@ field_is line f found =
 -- ---- one line
 
 -- what a line that is allowed adds to what has been read
-abbrev pub StepSound : List Entry → Spot → List ℕ → Step → Type 0
-StepSound done spot line Misfit = Unit {0}
-StepSound done spot line (Next next) = Fits done next × (printed done next ≡ printed done spot ++ ended line)
-StepSound done spot line Finished = (spot ≡ Between) × (line ≡ codes "end")
-StepSound done spot line (Body link reply n) = (spot ≡ Headed link reply) × HasSize line n
+abbrev pub StepSound : List Entry → Expected → List ℕ → Step → Type 0
+StepSound done expected line Misfit = Unit {0}
+StepSound done expected line (Next next) = Fits done next × (printed done next ≡ printed done expected ++ ended line)
+StepSound done expected line Finished = (expected ≡ Between) × (line ≡ codes "end")
+StepSound done expected line (Body link reply n) = (expected ≡ Headed link reply) × HasSize line n
 
 first_sound : (done : List Entry) (line : List ℕ) → Fits done First → StepSound done First line (step done First line)
 first_sound done line fits =
@@ -201,7 +201,7 @@ field_sound done link line reply fits (Some (Location value)) e =
     (λ _. tt)
 field_sound done link line reply fits (Some (Size n)) e = (refl, field_is line (Size n) e)
 
-step_sound : (done : List Entry) (spot : Spot) (line : List ℕ) → Fits done spot → StepSound done spot line (step done spot line)
+step_sound : (done : List Entry) (expected : Expected) (line : List ℕ) → Fits done expected → StepSound done expected line (step done expected line)
 step_sound done First line fits = first_sound done line fits
 step_sound done Between line fits = between_sound done line fits
 step_sound done (Named link) line fits = status_sound done link line fits (option_and_then number_of (behind (codes "status ") line)) refl
@@ -229,15 +229,15 @@ blocks-push [] e = append-nil (block_text e)
 blocks-push (d ∷ done) e = ap (λ bs. block_text d ++ bs) (blocks-push done e) ∙ sym (append_assoc (block_text d) (flat_map block_text done) (block_text e))
 
 -- what a look adds to what has been read; bytes that are a whole site are its text
-abbrev pub LookSound : List Entry → Spot → List ℕ → Look → Type 0
-LookSound done spot rest (Answer (Ok es)) = (is_site_from None es ≡ true) × (printed done spot ++ rest ≡ site_text es)
-LookSound done spot rest (Answer (Err place)) = Unit {0}
-LookSound done spot rest (On done' spot' at' rest') = Fits done' spot' × (printed done spot ++ rest ≡ printed done' spot' ++ rest') × (length rest' ≤ length rest)
+abbrev pub LookSound : List Entry → Expected → List ℕ → Look → Type 0
+LookSound done expected rest (Answer (Ok es)) = (is_site_from None es ≡ true) × (printed done expected ++ rest ≡ site_text es)
+LookSound done expected rest (Answer (Err place)) = Unit {0}
+LookSound done expected rest (On done' spot' at' rest') = Fits done' spot' × (printed done expected ++ rest ≡ printed done' spot' ++ rest') × (length rest' ≤ length rest)
 
-end_sound : (done : List Entry) (spot : Spot) (line more rest : List ℕ) (at : ℕ) → rest ≡ line ++ 10 ∷ more → Fits done spot → StepSound done spot line Finished → LookSound done spot rest (look_behind done at more)
-end_sound done spot line (b ∷ more) rest at split fits last = tt
-end_sound done spot line [] rest at split fits last =
-    let P : Spot → Type 0 = λ s. Fits done s in
+end_sound : (done : List Entry) (expected : Expected) (line more rest : List ℕ) (at : ℕ) → rest ≡ line ++ 10 ∷ more → Fits done expected → StepSound done expected line Finished → LookSound done expected rest (look_behind done at more)
+end_sound done expected line (b ∷ more) rest at split fits last = tt
+end_sound done expected line [] rest at split fits last =
+    let P : Expected → Type 0 = λ s. Fits done s in
     let front = ended (codes "site 1") in (
       subst P last.0 fits,
       ap (λ s. printed done s ++ rest) last.0 ∙ ap (λ bs. (front ++ flat_map block_text done) ++ bs) (split ∙ ap ended last.1) ∙ append_assoc front (flat_map block_text done) (ended (codes "end")),
@@ -246,8 +246,8 @@ end_sound done spot line [] rest at split fits last =
 block_grown : (front blocks names head size body more : List ℕ) → ((front ++ blocks) ++ (names ++ head)) ++ (size ++ (body ++ more)) ≡ (front ++ (blocks ++ (names ++ (head ++ (size ++ body))))) ++ more
 block_grown front blocks names head size body more = simp append_assoc
 
-body_sound : (done : List Entry) (spot : Spot) (line more rest link : List ℕ) (reply : Reply) (n line_at at : ℕ) → length more < 2 ^ 64 → length more ≤ length rest → rest ≡ line ++ 10 ∷ more → Fits done spot → StepSound done spot line (Body link reply n) → LookSound done spot rest (look_body done line_at at more link reply n)
-body_sound done spot line more rest link reply n line_at at small shorter split fits last =
+body_sound : (done : List Entry) (expected : Expected) (line more rest link : List ℕ) (reply : Reply) (n line_at at : ℕ) → length more < 2 ^ 64 → length more ≤ length rest → rest ≡ line ++ 10 ∷ more → Fits done expected → StepSound done expected line (Body link reply n) → LookSound done expected rest (look_body done line_at at more link reply n)
+body_sound done expected line more rest link reply n line_at at small shorter split fits last =
     let body = take n more in
     let after = drop (suc n) more in
     let e : Entry = (link, record reply { body = body }) in
@@ -256,9 +256,9 @@ body_sound done spot line more rest link reply n line_at at small shorter split 
     let names = ended (codes "link " ++ link) in
     let head = head_text reply in
     let size = ended (codes "body " ++ decimal (length body)) in
-    let F : Spot → Type 0 = Fits done in
+    let F : Expected → Type 0 = Fits done in
     let open_fits : Fits done (Headed link reply) = subst F last.0 fits in
-    cond_both (is_lf_at more n) (On (done ++ e ∷ []) Between (at + suc n) after) (Answer (Err line_at)) (LookSound done spot rest)
+    cond_both (is_lf_at more n) (On (done ++ e ∷ []) Between (at + suc n) after) (Answer (Err line_at)) (LookSound done expected rest)
     (λ lf.
     let parts = body_split more n lf in
     let counted : decimal (length body) ≡ last.1.0 = ap decimal (length-take-le n more (omega (arith, parts.0))) ∙ decimal-number last.1.0 n last.1.2 (omega (arith, parts.0)) in
@@ -266,43 +266,43 @@ body_sound done spot line more rest link reply n line_at at small shorter split 
     let text : rest ≡ size ++ (ended body ++ after) =
     split ∙ sym (append_assoc line (10 ∷ []) more) ∙ ap (λ bs. ended bs ++ more) same_line
     ∙ ap (λ bs. size ++ bs) (parts.1 ∙ sym (append_assoc body (10 ∷ []) after)) in
-    let whole : printed done spot ++ rest ≡ printed (done ++ e ∷ []) Between ++ after =
+    let whole : printed done expected ++ rest ≡ printed (done ++ e ∷ []) Between ++ after =
     ap (λ s. printed done s ++ rest) last.0 ∙ ap (λ bs. ((front ++ blocks) ++ (names ++ head)) ++ bs) text
     ∙ block_grown front blocks names head size (ended body) after
     ∙ ap (λ bs. (front ++ bs) ++ after) (sym (blocks-push done e)) in
     (site-push None done e open_fits.0 open_fits.1 open_fits.2 open_fits.3, whole, omega (arith, length-drop (suc n) more)))
     (λ _. tt)
 
-line_sound : (done : List Entry) (spot : Spot) (rest : List ℕ) (at n : ℕ) → length rest < 2 ^ 64 → Fits done spot → position is_lf rest ≡ Some n → (s : Step) → StepSound done spot (take n rest) s → LookSound done spot rest (look_step done at (at + suc n) (drop (suc n) rest) s)
-line_sound done spot rest at n small fits found Misfit sound = tt
-line_sound done spot rest at n small fits found (Next next) sound =
+line_sound : (done : List Entry) (expected : Expected) (rest : List ℕ) (at n : ℕ) → length rest < 2 ^ 64 → Fits done expected → position is_lf rest ≡ Some n → (s : Step) → StepSound done expected (take n rest) s → LookSound done expected rest (look_step done at (at + suc n) (drop (suc n) rest) s)
+line_sound done expected rest at n small fits found Misfit sound = tt
+line_sound done expected rest at n small fits found (Next next) sound =
     let split = split_line rest n found in
     let line = take n rest in
     let more = drop (suc n) rest in (
       sound.0,
-      ap (λ bs. printed done spot ++ bs) (split.1 ∙ sym (append_assoc line (10 ∷ []) more)) ∙ sym (append_assoc (printed done spot) (ended line) more) ∙ ap (λ bs. bs ++ more) (sym sound.1),
+      ap (λ bs. printed done expected ++ bs) (split.1 ∙ sym (append_assoc line (10 ∷ []) more)) ∙ sym (append_assoc (printed done expected) (ended line) more) ∙ ap (λ bs. bs ++ more) (sym sound.1),
       omega (arith, length-drop (suc n) rest),
     )
-line_sound done spot rest at n small fits found Finished sound = end_sound done spot (take n rest) (drop (suc n) rest) rest (at + suc n) (split_line rest n found).1 fits sound
-line_sound done spot rest at n small fits found (Body link reply m) sound =
+line_sound done expected rest at n small fits found Finished sound = end_sound done expected (take n rest) (drop (suc n) rest) rest (at + suc n) (split_line rest n found).1 fits sound
+line_sound done expected rest at n small fits found (Body link reply m) sound =
     let shorter : length (drop (suc n) rest) ≤ length rest = omega (arith, length-drop (suc n) rest) in
-    body_sound done spot (take n rest) (drop (suc n) rest) rest link reply m at (at + suc n) (omega (arith, shorter)) shorter (split_line rest n found).1 fits sound
+    body_sound done expected (take n rest) (drop (suc n) rest) rest link reply m at (at + suc n) (omega (arith, shorter)) shorter (split_line rest n found).1 fits sound
 
-look_line_sound : (done : List Entry) (spot : Spot) (at : ℕ) (rest : List ℕ) → length rest < 2 ^ 64 → Fits done spot → (found : Option ℕ) → position is_lf rest ≡ found → LookSound done spot rest (look_line done spot at rest found)
-look_line_sound done spot at rest small fits None e = tt
-look_line_sound done spot at rest small fits (Some n) e = line_sound done spot rest at n small fits e (step done spot (take n rest)) (step_sound done spot (take n rest) fits)
+look_line_sound : (done : List Entry) (expected : Expected) (at : ℕ) (rest : List ℕ) → length rest < 2 ^ 64 → Fits done expected → (found : Option ℕ) → position is_lf rest ≡ found → LookSound done expected rest (look_line done expected at rest found)
+look_line_sound done expected at rest small fits None e = tt
+look_line_sound done expected at rest small fits (Some n) e = line_sound done expected rest at n small fits e (step done expected (take n rest)) (step_sound done expected (take n rest) fits)
 
-pub look_sound : (done : List Entry) (spot : Spot) (at : ℕ) (rest : List ℕ) → length rest < 2 ^ 64 → Fits done spot → LookSound done spot rest (look done spot at rest)
-look_sound done spot at rest small fits = look_line_sound done spot at rest small fits (position is_lf rest) refl
+pub look_sound : (done : List Entry) (expected : Expected) (at : ℕ) (rest : List ℕ) → length rest < 2 ^ 64 → Fits done expected → LookSound done expected rest (look done expected at rest)
+look_sound done expected at rest small fits = look_line_sound done expected at rest small fits (position is_lf rest) refl
 
 -- what is read stays a site
-pub fits_on : (done new : List Entry) (spot next : Spot) (at place : ℕ) (rest more : List ℕ) → length rest < 2 ^ 64 → Fits done spot → look done spot at rest ≡ On new next place more → Fits new next
-fits_on done new spot next at place rest more small fits found =
-    let P : Look → Type 0 = LookSound done spot rest in
-    let sound : LookSound done spot rest (On new next place more) = subst P found (look_sound done spot at rest small fits) in
+pub fits_on : (done new : List Entry) (expected next : Expected) (at place : ℕ) (rest more : List ℕ) → length rest < 2 ^ 64 → Fits done expected → look done expected at rest ≡ On new next place more → Fits new next
+fits_on done new expected next at place rest more small fits found =
+    let P : Look → Type 0 = LookSound done expected rest in
+    let sound : LookSound done expected rest (On new next place more) = subst P found (look_sound done expected at rest small fits) in
     sound.0
 
-pub fits_site : (done : List Entry) (spot : Spot) → Fits done spot → is_site_from None done ≡ true
+pub fits_site : (done : List Entry) (expected : Expected) → Fits done expected → is_site_from None done ≡ true
 fits_site done First fits = let P : List Entry → Type 0 = λ ds. is_site_from None ds ≡ true in subst P (sym fits) refl
 fits_site done Between fits = fits
 fits_site done (Named link) fits = fits.0
@@ -310,13 +310,13 @@ fits_site done (Headed link reply) fits = fits.0
 
 -- ---- all lines
 
-reads_sound : {done : List Entry} {spot : Spot} {at : ℕ} {rest : List ℕ} {answer : Result (List Entry) ℕ} → Reads done spot at rest answer → length rest < 2 ^ 64 → Fits done spot → (es : List Entry) → answer ≡ Ok es → (is_site_from None es ≡ true) × (printed done spot ++ rest ≡ site_text es)
-reads_sound {done} {spot} {at} {rest} {answer} (reads_end e) small fits es is =
-    let P : Look → Type 0 = LookSound done spot rest in
-    subst P (e ∙ ap Answer is) (look_sound done spot at rest small fits)
-reads_sound {done} {spot} {at} {rest} {answer} (reads_on {done'} {spot'} {at'} {rest'} e reads) small fits es is =
-    let P : Look → Type 0 = LookSound done spot rest in
-    let here : LookSound done spot rest (On done' spot' at' rest') = subst P e (look_sound done spot at rest small fits) in
+reads_sound : {done : List Entry} {expected : Expected} {at : ℕ} {rest : List ℕ} {answer : Result (List Entry) ℕ} → Reads done expected at rest answer → length rest < 2 ^ 64 → Fits done expected → (es : List Entry) → answer ≡ Ok es → (is_site_from None es ≡ true) × (printed done expected ++ rest ≡ site_text es)
+reads_sound {done} {expected} {at} {rest} {answer} (reads_end e) small fits es is =
+    let P : Look → Type 0 = LookSound done expected rest in
+    subst P (e ∙ ap Answer is) (look_sound done expected at rest small fits)
+reads_sound {done} {expected} {at} {rest} {answer} (reads_on {done'} {spot'} {at'} {rest'} e reads) small fits es is =
+    let P : Look → Type 0 = LookSound done expected rest in
+    let here : LookSound done expected rest (On done' spot' at' rest') = subst P e (look_sound done expected at rest small fits) in
     let later = reads_sound reads (omega (arith, here.2)) here.0 es is in
     (later.0, here.1 ∙ later.1)
 

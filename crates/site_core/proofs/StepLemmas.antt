@@ -6,11 +6,11 @@ use Rattle.std.specs.Str.{IsUtf8}
 use Rattle.std.proofs.lemmas.Bool.{and_parts}
 use Rattle.std.proofs.lemmas.Option.{same_Some}
 use Rattle.link_uri.specs.declared.heard.Reply.{Reply}
-use Rattle.site_core.specs.declared.spot.Field.{Field}
-use Rattle.site_core.specs.declared.spot.Field.TheVariants.{Media, Coding, Location, Size}
-use Rattle.site_core.specs.declared.spot.Spot.TheVariants.{Headed}
-use Rattle.site_core.specs.declared.spot.Step.{Step}
-use Rattle.site_core.specs.declared.spot.Step.TheVariants.{Misfit, Next}
+use Rattle.site_core.specs.declared.expected.Field.{Field}
+use Rattle.site_core.specs.declared.expected.Field.TheVariants.{Media, Coding, Location, Size}
+use Rattle.site_core.specs.declared.expected.Expected.TheVariants.{Headed}
+use Rattle.site_core.specs.declared.expected.Step.{Step}
+use Rattle.site_core.specs.declared.expected.Step.TheVariants.{Misfit, Next}
 use Rattle.site_core.specs.Capped.{capped, capped_field}
 use Rattle.site_core.specs.Fields.{is_site_link}
 use Rattle.site_core.specs.Lines.{last_link, with_field}

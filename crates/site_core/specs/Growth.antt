@@ -7,18 +7,18 @@ use Rattle.site_core.specs.Fields.{behind, is_digit, is_number, is_printable, is
 use Rattle.site_core.specs.Lines.{step}
 use Rattle.site_core.specs.Places.{Reads}
 use Rattle.site_core.specs.Text.{Entry, comes_after}
-use Rattle.site_core.specs.declared.spot.Spot.{Spot}
-use Rattle.site_core.specs.declared.spot.Step.TheVariants.{Misfit}
+use Rattle.site_core.specs.declared.expected.Expected.{Expected}
+use Rattle.site_core.specs.declared.expected.Step.TheVariants.{Misfit}
 
 -- ---- what it means
 
 -- some bytes behind the part have another answer than a fault at the line
-abbrev pub CanGrow : List Entry → Spot → List ℕ → Type 0
-CanGrow done spot part = (more : List ℕ) × ((at : ℕ) → (answer : Result (List Entry) ℕ) × Reads done spot at (part ++ more) answer × (answer ≡ Err at → ⊥))
+abbrev pub CanGrow : List Entry → Expected → List ℕ → Type 0
+CanGrow done expected part = (more : List ℕ) × ((at : ℕ) → (answer : Result (List Entry) ℕ) × Reads done expected at (part ++ more) answer × (answer ≡ Err at → ⊥))
 
 -- no line that begins with the part is allowed there
-abbrev pub CannotGrow : List Entry → Spot → List ℕ → Type 0
-CannotGrow done spot part = (more : List ℕ) → step done spot (part ++ more) ≡ Misfit
+abbrev pub CannotGrow : List Entry → Expected → List ℕ → Type 0
+CannotGrow done expected part = (more : List ℕ) → step done expected (part ++ more) ≡ Misfit
 
 -- ---- the tests
 

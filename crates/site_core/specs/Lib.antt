@@ -4,4 +4,5 @@ pub mod Fields
 pub mod Growth
 pub mod Lines
 pub mod Places
+pub mod Serving
 pub mod Text

@@ -4,12 +4,12 @@ use Rattle.std.specs.Option.{option_or, is_none}
 use Rattle.link_uri.specs.declared.heard.Reply.{Reply}
 use Rattle.site_core.specs.Fields.{behind, is_site_link, is_status, is_value, number_of}
 use Rattle.site_core.specs.Text.{Entry, comes_after}
-use Rattle.site_core.specs.declared.spot.Field.{Field}
-use Rattle.site_core.specs.declared.spot.Field.TheVariants.{Media, Coding, Location, Size}
-use Rattle.site_core.specs.declared.spot.Spot.{Spot}
-use Rattle.site_core.specs.declared.spot.Spot.TheVariants.{First, Between, Named, Headed}
-use Rattle.site_core.specs.declared.spot.Step.{Step}
-use Rattle.site_core.specs.declared.spot.Step.TheVariants.{Misfit, Next, Finished, Body}
+use Rattle.site_core.specs.declared.expected.Field.{Field}
+use Rattle.site_core.specs.declared.expected.Field.TheVariants.{Media, Coding, Location, Size}
+use Rattle.site_core.specs.declared.expected.Expected.{Expected}
+use Rattle.site_core.specs.declared.expected.Expected.TheVariants.{First, Between, Named, Headed}
+use Rattle.site_core.specs.declared.expected.Step.{Step}
+use Rattle.site_core.specs.declared.expected.Step.TheVariants.{Misfit, Next, Finished, Body}
 
 -- the link of the last of the entries, or the one before them
 abbrev pub last_link : Option (List ℕ) → List Entry → Option (List ℕ)
@@ -45,7 +45,7 @@ with_status link None = Misfit
 with_status link (Some n) = if is_status n then Next (Headed link (bare n)) else Misfit
 
 -- what a line without its end does at a spot, behind these entries; a misfit isn't allowed there
-abbrev pub step : List Entry → Spot → List ℕ → Step
+abbrev pub step : List Entry → Expected → List ℕ → Step
 step done First line = if bytes_eq line (codes "site 1") then Next Between else Misfit
 step done Between line = if bytes_eq line (codes "end") then Finished else with_link done (behind (codes "link ") line)
 step done (Named link) line = with_status link (option_and_then number_of (behind (codes "status ") line))

@@ -4,15 +4,15 @@ use Rattle.link_uri.specs.declared.heard.Reply.{Reply}
 use Rattle.site_core.specs.Fields.{is_lf}
 use Rattle.site_core.specs.Lines.{step}
 use Rattle.site_core.specs.Text.{Entry, site_limit}
-use Rattle.site_core.specs.declared.spot.Spot.{Spot}
-use Rattle.site_core.specs.declared.spot.Spot.TheVariants.{First, Between}
-use Rattle.site_core.specs.declared.spot.Step.{Step}
-use Rattle.site_core.specs.declared.spot.Step.TheVariants.{Misfit, Next, Finished, Body}
+use Rattle.site_core.specs.declared.expected.Expected.{Expected}
+use Rattle.site_core.specs.declared.expected.Expected.TheVariants.{First, Between}
+use Rattle.site_core.specs.declared.expected.Step.{Step}
+use Rattle.site_core.specs.declared.expected.Step.TheVariants.{Misfit, Next, Finished, Body}
 
 -- what is found at one line: the answer, which is all entries or the place of the fault, or where to go on
 pub data Look : Type 0 where
   Answer : (answer : Result (List Entry) ℕ) → Look
-  On : (done : List Entry) → (spot : Spot) → (at : ℕ) → (rest : List ℕ) → Look
+  On : (done : List Entry) → (expected : Expected) → (at : ℕ) → (rest : List ℕ) → Look
 
 -- a byte of a line's end stands behind the first so many bytes
 abbrev pub is_lf_at : List ℕ → ℕ → Bool
@@ -30,22 +30,22 @@ look_behind done at (byte ∷ rest) = Answer (Err at)
 -- a line that isn't allowed there: the place is its first byte, at `line`
 abbrev pub look_step : List Entry → ℕ → ℕ → List ℕ → Step → Look
 look_step done line at rest Misfit = Answer (Err line)
-look_step done line at rest (Next spot) = On done spot at rest
+look_step done line at rest (Next expected) = On done expected at rest
 look_step done line at rest Finished = look_behind done at rest
 look_step done line at rest (Body link reply n) = look_body done line at rest link reply n
 
 -- a line that isn't ended by LF: the place is its first byte, and the file's length where no byte is left
-abbrev pub look_line : List Entry → Spot → ℕ → List ℕ → Option ℕ → Look
-look_line done spot line rest None = Answer (Err line)
-look_line done spot line rest (Some n) = look_step done line (line + suc n) (drop (suc n) rest) (step done spot (take n rest))
+abbrev pub look_line : List Entry → Expected → ℕ → List ℕ → Option ℕ → Look
+look_line done expected line rest None = Answer (Err line)
+look_line done expected line rest (Some n) = look_step done line (line + suc n) (drop (suc n) rest) (step done expected (take n rest))
 
-abbrev pub look : List Entry → Spot → ℕ → List ℕ → Look
-look done spot at rest = look_line done spot at rest (position is_lf rest)
+abbrev pub look : List Entry → Expected → ℕ → List ℕ → Look
+look done expected at rest = look_line done expected at rest (position is_lf rest)
 
 -- the lines from a spot on, at this place and behind these entries, have this answer
-pub data Reads : (done : List Entry) → (spot : Spot) → (at : ℕ) → (rest : List ℕ) → (answer : Result (List Entry) ℕ) → Type 0 where
-  reads_end : {done : List Entry} {spot : Spot} {at : ℕ} {rest : List ℕ} {answer : Result (List Entry) ℕ} → look done spot at rest ≡ Answer answer → Reads done spot at rest answer
-  reads_on : {done done' : List Entry} {spot spot' : Spot} {at at' : ℕ} {rest rest' : List ℕ} {answer : Result (List Entry) ℕ} → look done spot at rest ≡ On done' spot' at' rest' → Reads done' spot' at' rest' answer → Reads done spot at rest answer
+pub data Reads : (done : List Entry) → (expected : Expected) → (at : ℕ) → (rest : List ℕ) → (answer : Result (List Entry) ℕ) → Type 0 where
+  reads_end : {done : List Entry} {expected : Expected} {at : ℕ} {rest : List ℕ} {answer : Result (List Entry) ℕ} → look done expected at rest ≡ Answer answer → Reads done expected at rest answer
+  reads_on : {done done' : List Entry} {expected spot' : Expected} {at at' : ℕ} {rest rest' : List ℕ} {answer : Result (List Entry) ℕ} → look done expected at rest ≡ On done' spot' at' rest' → Reads done' spot' at' rest' answer → Reads done expected at rest answer
 
 -- the place of the first fault by the lines, whatever the length
 abbrev pub FaultAt : List ℕ → ℕ → Type 0

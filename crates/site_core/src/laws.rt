@@ -1,6 +1,7 @@
 //! Laws of the definitions. Each function's contract is one law, and its body is empty.
 ghost use Rattle.std.specs.Prelude.{◌≡◌, ℕ, List};
 ghost use Rattle.site_core.specs.Places.{SiteBad};
+ghost use Rattle.site_core.specs.Serving.{IsServed};
 ghost use Rattle.site_core.specs.Text.{Entry, SiteText};
 
 /// A text is that of one site: reading what was written gives the site again.
@@ -17,4 +18,9 @@ pub fn a_site_text_has_no_fault()
 /// There is one first fault.
 pub fn a_fault_has_one_place()
     ensures { (bytes : List ℕ) (a b : ℕ) → SiteBad bytes a → SiteBad bytes b → a ≡ b }
+{}
+
+/// A request has one response.
+pub fn a_request_has_one_response()
+    ensures { (site : List Entry) (request a b : List ℕ) → IsServed site request a → IsServed site request b → a ≡ b }
 {}

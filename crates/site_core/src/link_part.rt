@@ -3,9 +3,9 @@ ghost use Rattle.site_core.specs.Fields as fields;
 ghost use Rattle.site_core.specs.Growth as spec;
 ghost use Rattle.site_core.specs.Lines.{last_link};
 
-use crate::beyond::begins;
 use crate::fields::is_site_link;
 use crate::steps::follows;
+use crate::viable::begins;
 use link_uri::Reply;
 use rdf_terms::{Memory, TextBuf};
 use std::alloc::Global;

@@ -5,11 +5,11 @@ ghost use Rattle.site_core.specs.Places.{BeyondAt, SiteBad};
 ghost use Rattle.site_core.specs.declared.reading.Found.TheVariants.{Last, Fault};
 ghost use Rattle.site_core.specs.Text.{SiteText, site_limit};
 
-use crate::beyond::can_grow;
+use crate::expected::{Expected, Step};
 use crate::fault::SiteFault;
 use crate::site::Site;
-use crate::spot::{Spot, Step};
 use crate::steps::step;
+use crate::viable::is_viable_prefix;
 use link_uri::Reply;
 use rdf_terms::{ByteBuf, Memory, TextBuf};
 use std::alloc::Global;
@@ -34,7 +34,7 @@ enum Ending {
 #[derive(Drop)]
 struct OpenLine {
     entries: Vec<(TextBuf, Reply)>,
-    spot: Spot,
+    expected: Expected,
     at: usize,
 }
 
@@ -42,11 +42,11 @@ struct OpenLine {
 #[derive(Drop)]
 enum Found {
     /// An allowed line, with its body where it has one. This may stand next, from this place on.
-    Line(Spot, usize),
+    Line(Expected, usize),
     /// The last line, and nothing behind it.
     Last,
     Fault(usize),
-    Unended(Spot),
+    Unended(Expected),
     Cut,
 }
 
@@ -86,7 +86,7 @@ fn fault_at_open_line(alloc: Global, line: OpenLine, front: &[u8]) -> Result<usi
     ensures { IfOk result (BeyondAt front.now) }
 {
     let part = tail(front, line.at);
-    let grows = can_grow(alloc, line.entries.as_slice(), &line.spot, part)?;
+    let grows = is_viable_prefix(alloc, line.entries.as_slice(), &line.expected, part)?;
     let at = place_of(line);
     Ok(if grows { front.len() } else { at })
 }
@@ -117,17 +117,21 @@ fn read_lines(alloc: Global, bytes: &[u8]) -> Result<Ending, Memory>
     ensures { IfOk result (EndsSo bytes.now) }
 {
     let mut entries = Vec::new(alloc);
-    let mut spot = Spot::First;
+    let mut expected = Expected::First;
     let mut at = 0;
     loop {
-        match read_line(alloc, &mut entries, spot, at, bytes)? {
+        match read_line(alloc, &mut entries, expected, at, bytes)? {
             Found::Line(next_spot, next) => {
-                spot = next_spot;
+                expected = next_spot;
                 at = next;
             }
             Found::Last => return Ok(Ending::Whole(entries)),
             Found::Fault(place) => return Ok(Ending::Fault(place)),
-            Found::Unended(spot) => return Ok(Ending::Unended(OpenLine { entries, spot, at })),
+            Found::Unended(expected) => return Ok(Ending::Unended(OpenLine {
+                entries,
+                expected,
+                at,
+            })),
             Found::Cut => return Ok(Ending::Cut(at)),
         }
     }
@@ -136,26 +140,26 @@ fn read_lines(alloc: Global, bytes: &[u8]) -> Result<Ending, Memory>
 fn read_line(
     alloc: Global,
     entries: &mut Vec<(TextBuf, Reply)>,
-    spot: Spot,
+    expected: Expected,
     at: usize,
     bytes: &[u8],
 ) -> Result<Found, Memory>
     requires { at ≤ length bytes.now }
-    ensures { IfOk result (Finds entries.old.items spot at bytes.now entries.new.items) }
+    ensures { IfOk result (Finds entries.old.items expected at bytes.now entries.new.items) }
 {
     let rest = tail(bytes, at);
     let Some(length) = line_length(rest) else {
-        return Ok(Found::Unended(spot));
+        return Ok(Found::Unended(expected));
     };
     let next = at + length + 1;
-    match step(alloc, entries.as_slice(), spot, front(rest, length))? {
+    match step(alloc, entries.as_slice(), expected, front(rest, length))? {
         Step::Misfit => Ok(Found::Fault(at)),
-        Step::Next(spot) => Ok(Found::Line(spot, next)),
+        Step::Next(expected) => Ok(Found::Line(expected, next)),
         Step::Finished => Ok(last(next, bytes.len())),
         Step::Body(link, reply, size) => match read_body(alloc, tail(bytes, next), size)? {
             Body::Whole(body) => {
                 entries.push((link, with_body(reply, body)))?;
-                Ok(Found::Line(Spot::Between, next + size + 1))
+                Ok(Found::Line(Expected::Between, next + size + 1))
             }
             Body::Misfit => Ok(Found::Fault(at)),
             Body::Short => Ok(Found::Cut),

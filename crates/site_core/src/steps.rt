@@ -1,14 +1,14 @@
 ghost use Rattle.std.specs.Prelude.{◌≡◌, ℕ, List, IfOk, Option, Some, None, option_map};
 ghost use Rattle.site_core.specs.Lines as spec;
 ghost use Rattle.site_core.specs.Text.{Entry, comes_after};
-ghost use Rattle.site_core.specs.declared.spot.Field.TheVariants.{Size};
-ghost use Rattle.site_core.specs.declared.spot.Spot.TheVariants.{First, Between, Named};
+ghost use Rattle.site_core.specs.declared.expected.Field.TheVariants.{Size};
+ghost use Rattle.site_core.specs.declared.expected.Expected.TheVariants.{First, Between, Named};
 ghost use Rattle.site_core.specs.Capped.{capped, capped_field, capped_number};
 ghost use Rattle.std.specs.Cmp.Lexicographic.{slice_cmp};
 ghost use Rattle.std.specs.Ordering.{nat_cmp, is_lt};
 
+use crate::expected::{Expected, Field, Step};
 use crate::fields::{behind, is_site_link, is_status, number_of, value_behind};
-use crate::spot::{Field, Spot, Step};
 use link_uri::Reply;
 use rdf_terms::{ByteBuf, Memory, TextBuf};
 use std::alloc::Global;
@@ -17,16 +17,16 @@ use std::alloc::Global;
 pub(crate) fn step(
     alloc: Global,
     entries: &[(TextBuf, Reply)],
-    spot: Spot,
+    expected: Expected,
     line: &[u8],
 ) -> Result<Step, Memory>
-    ensures { IfOk result (λ s. s ≡ capped (spec.step entries.now spot line.now)) }
+    ensures { IfOk result (λ s. s ≡ capped (spec.step entries.now expected line.now)) }
 {
-    match spot {
-        Spot::First => Ok(first(line)),
-        Spot::Between => between(alloc, entries, line),
-        Spot::Named(link) => Ok(named(alloc, link, line)),
-        Spot::Headed(link, reply) => Ok(with_field(link, reply, field_of(alloc, line)?)),
+    match expected {
+        Expected::First => Ok(first(line)),
+        Expected::Between => between(alloc, entries, line),
+        Expected::Named(link) => Ok(named(alloc, link, line)),
+        Expected::Headed(link, reply) => Ok(with_field(link, reply, field_of(alloc, line)?)),
     }
 }
 
@@ -34,7 +34,7 @@ fn first(line: &[u8]) -> Step
     ensures { (done : List Entry) → result ≡ capped (spec.step done First line.now) }
 {
     if line == b"site 1".as_slice() {
-        Step::Next(Spot::Between)
+        Step::Next(Expected::Between)
     } else {
         Step::Misfit
     }
@@ -59,7 +59,7 @@ fn with_link(alloc: Global, entries: &[(TextBuf, Reply)], text: &[u8]) -> Result
         return Ok(Step::Misfit);
     }
     match str::from_utf8(text) {
-        Ok(link) => Ok(Step::Next(Spot::Named(TextBuf::from_str(alloc, link)?))),
+        Ok(link) => Ok(Step::Next(Expected::Named(TextBuf::from_str(alloc, link)?))),
         Err(_) => Ok(Step::Misfit),
     }
 }
@@ -94,7 +94,7 @@ fn with_status(alloc: Global, link: TextBuf, number: Option<usize>) -> Step
         → result ≡ capped (spec.with_status link exact) }
 {
     match number {
-        Some(status) if is_status(status) => Step::Next(Spot::Headed(
+        Some(status) if is_status(status) => Step::Next(Expected::Headed(
             link,
             Reply {
                 status: status as u16,
@@ -143,15 +143,15 @@ fn with_field(link: TextBuf, mut reply: Reply, field: Option<Field>) -> Step
         Some(Field::Media(value))
             if reply.media.is_none() && reply.coding.is_none() && reply.location.is_none() => {
             reply.media = Some(value);
-            Step::Next(Spot::Headed(link, reply))
+            Step::Next(Expected::Headed(link, reply))
         }
         Some(Field::Coding(value)) if reply.coding.is_none() && reply.location.is_none() => {
             reply.coding = Some(value);
-            Step::Next(Spot::Headed(link, reply))
+            Step::Next(Expected::Headed(link, reply))
         }
         Some(Field::Location(value)) if reply.location.is_none() => {
             reply.location = Some(value);
-            Step::Next(Spot::Headed(link, reply))
+            Step::Next(Expected::Headed(link, reply))
         }
         Some(Field::Size(size)) => Step::Body(link, reply, size),
         _ => Step::Misfit,

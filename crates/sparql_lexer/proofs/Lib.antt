@@ -1,3 +1,3 @@
-pub mod Residual
-pub mod Shades
+pub mod Derivatives
+pub mod Lookahead
 pub mod Query

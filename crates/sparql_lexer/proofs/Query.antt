@@ -1,11 +1,11 @@
 -- The rules of queries with their automaton, and what follows for its token lists.
 use Rattle.std.proofs.Common.{◌≡◌, List, [], ◌∷◌, ℕ, drop, true, false, refl}
-use Rattle.text_rules.specs.declared.class.Class.{Class}
-use Rattle.text_rules.specs.Utf8.{symbols_of}
-use Rattle.text_rules.specs.Rules.{Never, allows}
-use Rattle.text_rules.proofs.Lexicon.{Lexicon}
-use Rattle.text_rules.proofs.Unique as unique
-use Rattle.text_rules.proofs.Existence.{has_list}
+use Rattle.terminals.specs.declared.class.Class.{Class}
+use Rattle.terminals.specs.Utf8.{symbols_of}
+use Rattle.terminals.specs.Rules.{Never, allows}
+use Rattle.terminals.proofs.Lexicon.{Lexicon}
+use Rattle.terminals.proofs.Unique as unique
+use Rattle.terminals.proofs.Existence.{has_list}
 use Rattle.sparql_lexer.specs.declared.kind.QueryKind.{QueryKind}
 use Rattle.sparql_lexer.specs.declared.kind.QueryKind.TheVariants as kinds
 use Rattle.sparql_lexer.specs.declared.token.QueryToken.{QueryToken}
@@ -14,8 +14,8 @@ use Rattle.sparql_lexer.specs.declared.state.State.TheVariants as at
 use Rattle.sparql_lexer.specs.Rules.{rule_of}
 use Rattle.sparql_lexer.specs.State.{stepped, kind_of, is_waiting}
 use Rattle.sparql_lexer.specs.Tokens.{token_of, is_last, skipped, QueryTokens}
-use Rattle.sparql_lexer.proofs.Residual.{query_decides, sole_kind}
-use Rattle.sparql_lexer.proofs.Shades.{no_ill, shade, shade_back, shade_unfinished, is_dotted, waiting_shade}
+use Rattle.sparql_lexer.proofs.Derivatives.{query_decides, sole_kind}
+use Rattle.sparql_lexer.proofs.Lookahead.{no_ill, shade, shade_back, shade_unfinished, is_dotted, waiting_shade}
 
 abbrev pub query : Lexicon State QueryKind QueryToken
 query = record {

@@ -1,10 +1,10 @@
 -- The rules for the tokens of queries, after the terminals of SPARQL 1.1, section 19.8.
 use Rattle.std.specs.Prelude.{Bool, true, false}
-use Rattle.text_rules.specs.declared.class.Class.{Class}
-use Rattle.text_rules.specs.declared.class.Class.TheVariants as classes
-use Rattle.text_rules.specs.Groups.{is_base, is_label_first, is_caret}
-use Rattle.text_rules.specs.Rules.{Rule, Never, One, Then, Either, Many}
-use Rattle.text_rules.specs.Terminals.{iri_ref, name, blank_label, language_tag, quoted, integer, decimal, double, word}
+use Rattle.terminals.specs.declared.class.Class.{Class}
+use Rattle.terminals.specs.declared.class.Class.TheVariants as classes
+use Rattle.terminals.specs.Groups.{is_base, is_label_first, is_caret}
+use Rattle.terminals.specs.Rules.{Rule, Never, One, Then, Either, Many}
+use Rattle.terminals.specs.Terminals.{iri_ref, name, blank_label, language_tag, quoted, integer, decimal, double, word}
 use Rattle.sparql_lexer.specs.declared.kind.QueryKind.{QueryKind}
 use Rattle.sparql_lexer.specs.declared.kind.QueryKind.TheVariants as kinds
 

@@ -1,14 +1,14 @@
 -- The automaton that follows all rules at once.
 use Rattle.std.specs.Prelude.{ℕ, zero, suc, List, Bool, true, false, Option, Some, None, if◌then◌else◌}
-use Rattle.text_rules.specs.declared.class.Class.{Class}
-use Rattle.text_rules.specs.declared.class.Class.TheVariants as classes
-use Rattle.text_rules.specs.declared.groups.Quote.{Quote}
-use Rattle.text_rules.specs.declared.groups.Quote.TheVariants as quotes
-use Rattle.text_rules.specs.Groups as group
-use Rattle.text_rules.specs.Utf8.{Symbol}
-use Rattle.text_rules.specs.Rules.{with_digit}
-use Rattle.text_rules.specs.Scan.{IsWall}
-use Rattle.text_rules.specs.Terminals.{is_iri_code, is_scalar}
+use Rattle.terminals.specs.declared.class.Class.{Class}
+use Rattle.terminals.specs.declared.class.Class.TheVariants as classes
+use Rattle.terminals.specs.declared.groups.Quote.{Quote}
+use Rattle.terminals.specs.declared.groups.Quote.TheVariants as quotes
+use Rattle.terminals.specs.Groups as group
+use Rattle.terminals.specs.Utf8.{Symbol}
+use Rattle.terminals.specs.Rules.{with_digit}
+use Rattle.terminals.specs.Scan.{NoColonBefore}
+use Rattle.terminals.specs.Terminals.{is_iri_code, is_scalar}
 use Rattle.sparql_lexer.specs.Rules.{is_var}
 use Rattle.sparql_lexer.specs.declared.kind.QueryKind.{QueryKind}
 use Rattle.sparql_lexer.specs.declared.kind.QueryKind.TheVariants as kinds
@@ -285,6 +285,6 @@ is_waiting at.Prefix = true
 is_waiting at.PrefixDot = true
 is_waiting _ = false
 
--- before the wall no colon comes that makes a name of a prefix which a dot has followed
-abbrev pub IsNameless : ℕ → ℕ → List Symbol → Type 0
-IsNameless wall place xs = IsWall stepped kind_of at.PrefixDot wall place xs
+-- before `no_colon_before` no colon comes that makes a name of a prefix which a dot has followed
+abbrev pub HasNoPrefixedName : ℕ → ℕ → List Symbol → Type 0
+HasNoPrefixedName no_colon_before place xs = NoColonBefore stepped kind_of at.PrefixDot no_colon_before place xs

@@ -2,15 +2,15 @@
 use Rattle.std.specs.Prelude.{◌≡◌, ℕ, ◌<◌, ◌≤◌, List, [], ◌∷◌, ◌++◌, All, drop, slice_range, true, false, Bool, nat_eq, if◌then◌else◌}
 use Rattle.std.specs.List.{starts_with}
 use Rattle.std.specs.Str.{IsUtf8}
-use Rattle.text_rules.specs.Utf8.{Symbol, symbols_of}
-use Rattle.text_rules.specs.Tokens.{Lexes}
+use Rattle.terminals.specs.Utf8.{Symbol, symbols_of}
+use Rattle.terminals.specs.Tokens.{Lexes}
 use Rattle.sparql_lexer.specs.declared.kind.QueryKind.{QueryKind}
 use Rattle.sparql_lexer.specs.declared.kind.QueryKind.TheVariants as kinds
 use Rattle.sparql_lexer.specs.declared.token.QueryToken.{QueryToken}
 use Rattle.sparql_lexer.specs.declared.lexing.Next.{Next}
 use Rattle.sparql_lexer.specs.declared.lexing.Next.TheVariants as nexts
 use Rattle.sparql_lexer.specs.Rules.{rule_of}
-use Rattle.sparql_lexer.specs.State.{IsNameless}
+use Rattle.sparql_lexer.specs.State.{HasNoPrefixedName}
 
 -- a token of its kind and its two ends
 abbrev pub token_of : QueryKind → ℕ → ℕ → QueryToken
@@ -72,7 +72,7 @@ abbrev pub HasPlain : List ℕ → Next → Type 0
 HasPlain bytes (nexts.Token t) = IsPlain bytes t
 HasPlain bytes (nexts.Last t) = IsPlain bytes t
 
--- no name's colon comes behind it up to the wall
-abbrev pub IsNamelessBehind : ℕ → List ℕ → Next → Type 0
-IsNamelessBehind wall bytes (nexts.Token t) = IsNameless wall t.to (symbols_of (drop t.to bytes))
-IsNamelessBehind wall bytes (nexts.Last t) = Unit {0}
+-- no name's colon comes behind it up to `no_colon_before`
+abbrev pub HasNoPrefixedNameBehind : ℕ → List ℕ → Next → Type 0
+HasNoPrefixedNameBehind no_colon_before bytes (nexts.Token t) = HasNoPrefixedName no_colon_before t.to (symbols_of (drop t.to bytes))
+HasNoPrefixedNameBehind no_colon_before bytes (nexts.Last t) = Unit {0}

@@ -1,8 +1,8 @@
 //! The list of all tokens.
 
 ghost use Rattle.std.specs.Prelude.{◌≡◌, ◌≤◌, length, drop, All, IfOk};
-ghost use Rattle.text_rules.specs.Utf8.{symbols_of};
-ghost use Rattle.sparql_lexer.specs.State.{IsNameless};
+ghost use Rattle.terminals.specs.Utf8.{symbols_of};
+ghost use Rattle.sparql_lexer.specs.State.{HasNoPrefixedName};
 ghost use Rattle.sparql_lexer.specs.Tokens as spec;
 
 use crate::kind::QueryKind;
@@ -10,7 +10,7 @@ use crate::scan::longest;
 use crate::token::QueryToken;
 use rdf_terms::Memory;
 use std::alloc::Global;
-use text_rules::{Gap, gap_at};
+use terminals::{Gap, gap_at};
 
 /// What stands at a place, behind white space and comments.
 #[derive(Clone, Copy)]
@@ -32,22 +32,25 @@ fn last(kind: QueryKind, at: usize) -> Next
     })
 }
 
-// The token that follows a place, and the new wall.
-fn read(bytes: &[u8], from: usize, wall: usize) -> (Next, usize)
+// The token that follows a place, and the new `no_colon_before`.
+fn read(bytes: &[u8], from: usize, no_colon_before: usize) -> (Next, usize)
     requires place { from ≤ length bytes.now }
-    requires nameless { IsNameless wall from (symbols_of (drop from bytes.now)) }
+    requires nameless { HasNoPrefixedName no_colon_before from (symbols_of (drop from bytes.now)) }
     ensures next { spec.IsNext bytes.now from result.0 }
     ensures within { spec.IsWithin from (length bytes.now) result.0 }
     ensures placed { spec.IsPlaced result.0 }
     ensures plain { spec.HasPlain bytes.now result.0 }
-    ensures nameless { spec.IsNamelessBehind result.1 bytes.now result.0 }
+    ensures nameless { spec.HasNoPrefixedNameBehind result.1 bytes.now result.0 }
 {
     match gap_at(bytes, from) {
-        Gap::End(at) => (last(QueryKind::End, at), wall),
-        Gap::Ill(at) => (last(QueryKind::Bad, at), wall),
-        Gap::Token(at) => match longest(bytes, at, wall) {
-            (Some((kind, to)), wall) => (Next::Token(QueryToken { kind, from: at, to }), wall),
-            (None, wall) => (last(QueryKind::Bad, at), wall),
+        Gap::End(at) => (last(QueryKind::End, at), no_colon_before),
+        Gap::Ill(at) => (last(QueryKind::Bad, at), no_colon_before),
+        Gap::Token(at) => match longest(bytes, at, no_colon_before) {
+            (Some((kind, to)), no_colon_before) => (
+                Next::Token(QueryToken { kind, from: at, to }),
+                no_colon_before,
+            ),
+            (None, no_colon_before) => (last(QueryKind::Bad, at), no_colon_before),
         },
     }
 }
@@ -87,14 +90,14 @@ fn lex(alloc: Global, bytes: &[u8]) -> Result<Vec<QueryToken>, Memory>
 {
     let mut tokens = Vec::new(alloc);
     let mut at = skipped(bytes);
-    let mut wall = at;
+    let mut no_colon_before = at;
     loop {
-        let (next, next_wall) = read(bytes, at, wall);
+        let (next, next_no_colon_before) = read(bytes, at, no_colon_before);
         match next {
             Next::Token(token) => {
                 tokens.push(token)?;
                 at = token.to;
-                wall = next_wall;
+                no_colon_before = next_no_colon_before;
             }
             Next::Last(token) => {
                 tokens.push(token)?;

@@ -3,7 +3,7 @@
 //! Promise: `lex_sparql` gives the token list of the text, each token the longest text that a rule
 //! allows at its place. The rules are in `specs/Rules.antt`, the list is in `specs/Tokens.antt`, and
 //! each text has one (`one_token_list`).
-//! Not here: what tokens stand for (`text_rules`, `specs/Values.antt`), and their grammar
+//! Not here: what tokens stand for (`terminals`, `specs/Values.antt`), and their grammar
 //! (`sparql_parser`).
 #![tactic(auto)]
 

@@ -16,7 +16,7 @@ use Rattle.algebra_core.specs.declared.algebra.Algebra.{Algebra, Bgp, Join, Unio
 use Rattle.algebra_core.specs.declared.query.Key.{Key}
 use Rattle.algebra_core.specs.Meaning.{patterns_in, expressions_in}
 use Rattle.algebra_core.specs.Query.{IsBelow, is_whole}
-use Rattle.query_parts.specs.Translation.{is_nothing, joined, settled, conjunction, true_term, Stage, Grouped, empty_stage, closed, whole, whole_by, with_filter, with_triples, with_group, with_option}
+use Rattle.algebra_translation.specs.Translation.{is_nothing, joined, with_pending_bgp, conjunction, true_term, PartialGroup, Grouped, empty_group, finish_group, filtered, filtered_by, with_filter, with_triples, with_group, with_option}
 
 -- ---- members
 
@@ -199,8 +199,8 @@ module _ (width : ℕ) where
   fits_joined : (a b : Algebra) → FitsAlgebra a → FitsAlgebra b → FitsAlgebra (joined a b)
   fits_joined a b f g = either (is_nothing a) b _ g (either (is_nothing b) a (Join a b) f (fits_join a b f g))
 
-  fits_settled : (a : Algebra) (ps : List TriplePattern) → FitsAlgebra a → Each FitsPattern ps → FitsAlgebra (settled a ps)
-  fits_settled a ps f h = fits_joined a (Bgp ps) f (fits_bgp ps h)
+  fits_with_pending_bgp : (a : Algebra) (ps : List TriplePattern) → FitsAlgebra a → Each FitsPattern ps → FitsAlgebra (with_pending_bgp a ps)
+  fits_with_pending_bgp a ps f h = fits_joined a (Bgp ps) f (fits_bgp ps h)
 
   fits_conjunction : (es : List Expr) → Each FitsExpr es → FitsExpr (conjunction es)
   fits_conjunction [] h = fits_constant true_term
@@ -209,42 +209,42 @@ module _ (width : ℕ) where
 
   -- ---- groups
 
-  pub record FitsStage (s : Stage) : Type 0 where
-    pub plan : FitsAlgebra s.plan
+  pub record FitsPartialGroup (s : PartialGroup) : Type 0 where
+    pub algebra : FitsAlgebra s.algebra
     pub patterns : Each FitsPattern s.patterns
     pub filters : Each FitsExpr s.filters
 
   pub record FitsGroup (g : Grouped) : Type 0 where
-    pub plan : FitsAlgebra g.plan
+    pub algebra : FitsAlgebra g.algebra
     pub filters : Each FitsExpr g.filters
 
-  pub fits_empty : FitsStage empty_stage
-  fits_empty = record { plan = fits_bgp [] (each_nil FitsPattern); patterns = each_nil FitsPattern; filters = each_nil FitsExpr }
+  pub fits_empty : FitsPartialGroup empty_group
+  fits_empty = record { algebra = fits_bgp [] (each_nil FitsPattern); patterns = each_nil FitsPattern; filters = each_nil FitsExpr }
 
-  pub fits_closed : (s : Stage) → FitsStage s → FitsGroup (closed s)
-  fits_closed s f = record { plan = fits_settled s.plan s.patterns f.plan f.patterns; filters = f.filters }
+  pub fits_finished : (s : PartialGroup) → FitsPartialGroup s → FitsGroup (finish_group s)
+  fits_finished s f = record { algebra = fits_with_pending_bgp s.algebra s.patterns f.algebra f.patterns; filters = f.filters }
 
-  fits_whole_by : (es : List Expr) (a : Algebra) → Each FitsExpr es → FitsAlgebra a → FitsAlgebra (whole_by es a)
-  fits_whole_by [] a h f = f
-  fits_whole_by (e ∷ es) a h f = fits_filter (conjunction (e ∷ es)) a (fits_conjunction (e ∷ es) h) f
+  fits_filtered_by : (es : List Expr) (a : Algebra) → Each FitsExpr es → FitsAlgebra a → FitsAlgebra (filtered_by es a)
+  fits_filtered_by [] a h f = f
+  fits_filtered_by (e ∷ es) a h f = fits_filter (conjunction (e ∷ es)) a (fits_conjunction (e ∷ es) h) f
 
-  pub fits_whole : (g : Grouped) → FitsGroup g → FitsAlgebra (whole g)
-  fits_whole g f = fits_whole_by g.filters g.plan f.filters f.plan
+  pub fits_filtered : (g : Grouped) → FitsGroup g → FitsAlgebra (filtered g)
+  fits_filtered g f = fits_filtered_by g.filters g.algebra f.filters f.algebra
 
-  pub fits_with_filter : (s : Stage) (e : Expr) → FitsStage s → FitsExpr e → FitsStage (with_filter s e)
-  fits_with_filter s e f h = record { plan = f.plan; patterns = f.patterns; filters = each_push FitsExpr s.filters e f.filters h }
+  pub fits_with_filter : (s : PartialGroup) (e : Expr) → FitsPartialGroup s → FitsExpr e → FitsPartialGroup (with_filter s e)
+  fits_with_filter s e f h = record { algebra = f.algebra; patterns = f.patterns; filters = each_push FitsExpr s.filters e f.filters h }
 
-  pub fits_with_triples : (s : Stage) (ps : List TriplePattern) → FitsStage s → Each FitsPattern ps → FitsStage (with_triples s ps)
-  fits_with_triples s ps f h = record { plan = f.plan; patterns = h; filters = f.filters }
+  pub fits_with_triples : (s : PartialGroup) (ps : List TriplePattern) → FitsPartialGroup s → Each FitsPattern ps → FitsPartialGroup (with_triples s ps)
+  fits_with_triples s ps f h = record { algebra = f.algebra; patterns = h; filters = f.filters }
 
-  pub fits_with_group : (s : Stage) (a : Algebra) → FitsStage s → FitsAlgebra a → FitsStage (with_group s a)
+  pub fits_with_group : (s : PartialGroup) (a : Algebra) → FitsPartialGroup s → FitsAlgebra a → FitsPartialGroup (with_group s a)
   fits_with_group s a f g =
-      record { plan = fits_joined (settled s.plan s.patterns) a (fits_settled s.plan s.patterns f.plan f.patterns) g; patterns = each_nil FitsPattern; filters = f.filters }
+      record { algebra = fits_joined (with_pending_bgp s.algebra s.patterns) a (fits_with_pending_bgp s.algebra s.patterns f.algebra f.patterns) g; patterns = each_nil FitsPattern; filters = f.filters }
 
-  pub fits_with_option : (s : Stage) (g : Grouped) → FitsStage s → FitsGroup g → FitsStage (with_option s g)
+  pub fits_with_option : (s : PartialGroup) (g : Grouped) → FitsPartialGroup s → FitsGroup g → FitsPartialGroup (with_option s g)
   fits_with_option s g f h =
       record {
-        plan = fits_left_join (settled s.plan s.patterns) g.plan (conjunction g.filters) (fits_settled s.plan s.patterns f.plan f.patterns) h.plan (fits_conjunction g.filters h.filters);
+        algebra = fits_left_join (with_pending_bgp s.algebra s.patterns) g.algebra (conjunction g.filters) (fits_with_pending_bgp s.algebra s.patterns f.algebra f.patterns) h.algebra (fits_conjunction g.filters h.filters);
         patterns = each_nil FitsPattern;
         filters = f.filters;
       }

@@ -1,6 +1,6 @@
 -- No token is no terminal.
 use Rattle.std.proofs.Common.{◌≡◌, Bool, false, refl}
-use Rattle.sparql_scan.specs.declared.kind.Kind.TheVariants as kinds
+use Rattle.sparql_resolve.specs.declared.kind.Kind.TheVariants as kinds
 use Rattle.sparql_parser.specs.declared.tokens.Terminal.{Terminal}
 use Rattle.sparql_parser.specs.declared.tokens.Terminal.TheVariants as terminals
 use Rattle.sparql_parser.specs.Grammar.{is_terminal}

@@ -1,4 +1,4 @@
--- The variables of a scan's tokens: those that are written have names, and all are below the width.
+-- The variables of resolved tokens: those that are written have names, and all are below the width.
 use Rattle.std.proofs.Common.{◌≡◌, ◌<◌, ◌≤◌, ◌+◌, ℕ, List, [], ◌∷◌, ◌++◌, Bool, true, false, Option, Some, None, Result, Ok, Err, length, refl, rules, arith, if◌then◌else◌}
 use Rattle.std.specs.Prelude.{nat_lt, ◌==◌, cond, position, bytes_eq, codes}
 use Rattle.std.specs.Map.{lookup}
@@ -6,24 +6,24 @@ use Rattle.std.specs.Option.{option_or}
 use Rattle.std.proofs.lemmas.Bool.{ltb-true}
 use Rattle.std.proofs.lemmas.List.Quantifiers.{position-Some}
 use Rattle.indexmap.specs.IndexMap.{insert_entry}
-use Rattle.token_texts.specs.Texts.{plain, variable_text}
-use Rattle.text_rules.specs.Values.{iri_text, string_text, prefix_text, local_text, label_text, tag_text}
+use Rattle.terminals.specs.Texts.{plain, variable_text}
+use Rattle.terminals.specs.Values.{iri_text, string_text, prefix_text, local_text, label_text, tag_text}
 use Rattle.sparql_lexer.specs.declared.kind.QueryKind.{QueryKind}
 use Rattle.sparql_lexer.specs.declared.kind.QueryKind.TheVariants as lexed
 use Rattle.sparql_lexer.specs.declared.token.QueryToken.{QueryToken}
-use Rattle.sparql_scan.specs.declared.fault.Fault.{Fault}
-use Rattle.sparql_scan.specs.declared.fault.Fault.TheVariants.{Syntax, Deep}
-use Rattle.sparql_scan.specs.declared.kind.Kind.{Kind}
-use Rattle.sparql_scan.specs.declared.kind.Kind.TheVariants as kinds
-use Rattle.sparql_scan.specs.declared.kind.Token.{Token}
-use Rattle.sparql_scan.specs.declared.state.Before.{Before}
-use Rattle.sparql_scan.specs.declared.state.Before.TheVariants as before
-use Rattle.sparql_scan.specs.Iris.{iri_of}
-use Rattle.token_texts.specs.Iris.{prefixed_iri}
-use Rattle.sparql_scan.specs.Marks.{mark_kind, short_mark, long_mark}
-use Rattle.sparql_scan.specs.Names.{most_names}
-use Rattle.sparql_scan.specs.Words.{word_kind, head_word, group_word, order_word, call_word, test_word, clause_word, expression_word, other_word, verb_or_unknown, kind_or, is_unsupported}
-use Rattle.sparql_scan.specs.Scan.{State, Step, begin, needed, then', still, variable, variable_by, text, tag, blank_number, most_open, mark_by, word_by, label_by, declared, long_name_by, long_name, is_empty, name_by, name, kind_by, step, bytes_of, Scanning, scanning_by, scan_from, token}
+use Rattle.sparql_resolve.specs.declared.fault.Fault.{Fault}
+use Rattle.sparql_resolve.specs.declared.fault.Fault.TheVariants.{Syntax, Deep}
+use Rattle.sparql_resolve.specs.declared.kind.Kind.{Kind}
+use Rattle.sparql_resolve.specs.declared.kind.Kind.TheVariants as kinds
+use Rattle.sparql_resolve.specs.declared.kind.Token.{Token}
+use Rattle.sparql_resolve.specs.declared.state.Before.{Before}
+use Rattle.sparql_resolve.specs.declared.state.Before.TheVariants as before
+use Rattle.sparql_resolve.specs.Iris.{iri_of}
+use Rattle.iri_core.specs.Iris.{prefixed_iri}
+use Rattle.sparql_resolve.specs.Marks.{mark_kind, short_mark, long_mark}
+use Rattle.sparql_resolve.specs.Names.{most_names}
+use Rattle.sparql_resolve.specs.Words.{word_kind, head_word, group_word, order_word, call_word, test_word, clause_word, expression_word, other_word, verb_or_unknown, kind_or, is_unsupported}
+use Rattle.sparql_resolve.specs.Resolving.{State, Step, begin, needed, then', still, variable, variable_by, text, tag, blank_number, most_open, mark_by, word_by, label_by, declared, long_name_by, long_name, is_empty, name_by, name, kind_by, step, bytes_of, Resolving, resolving_by, resolve_from, token}
 use Rattle.sparql_parser.proofs.Fitting.{Each, each_nil, each_push}
 
 lt_true : (a b : ℕ) → nat_lt a b ≡ true → a < b
@@ -332,29 +332,29 @@ module _ (names : List (List ℕ)) where
 
   -- ---- all tokens
 
-  pub record IsCounted (b : ℕ) (r : Scanning) : Type 0 where
+  pub record IsCounted (b : ℕ) (r : Resolving) : Type 0 where
     pub more : b ≤ r.blanks
     pub tokens : Each (CountsToken r.blanks) r.tokens
 
   each_later : (b c : ℕ) (ts : List Token) → b ≤ c → Each (CountsToken b) ts → Each (CountsToken c) ts
   each_later b c ts le h t i = counts_later b c t.kind le (h t i)
 
-  counted_later : (b c : ℕ) (r : Scanning) → b ≤ c → IsCounted c r → IsCounted b r
+  counted_later : (b c : ℕ) (r : Resolving) → b ≤ c → IsCounted c r → IsCounted b r
   counted_later b c r le h = record { more = let m = h.more in omega (arith, m, le); tokens = h.tokens }
 
-  after_step : (b from : ℕ) (out : List Token) (x : Step) (go : Kind → State → Scanning) → Holds b x → Each (CountsToken b) out
-      → ((k : Kind) (next : State) → Steps b k next → Each (CountsToken next.blanks) (out ++ token k from ∷ []) → IsCounted next.blanks (go k next)) → IsCounted b (scanning_by x go out b)
+  after_step : (b from : ℕ) (out : List Token) (x : Step) (go : Kind → State → Resolving) → Holds b x → Each (CountsToken b) out
+      → ((k : Kind) (next : State) → Steps b k next → Each (CountsToken next.blanks) (out ++ token k from ∷ []) → IsCounted next.blanks (go k next)) → IsCounted b (resolving_by x go out b)
   after_step b from out (Ok x) go h e f =
       counted_later b x.1.blanks (go x.0 x.1) h.more (f x.0 x.1 h (each_push (CountsToken x.1.blanks) out (token x.0 from) (each_later b x.1.blanks out h.more e) h.counts))
   after_step b from out (Err y) go h e f = record { more = omega arith; tokens = e }
 
-  scan_counts : (bytes : List ℕ) (s : State) (out : List Token) (ts : List QueryToken) → AllMade s.blanks s.labels → Each (CountsToken s.blanks) out → IsCounted s.blanks (scan_from names bytes s out ts)
-  unfolding scan_from
-  scan_counts bytes s out [] l e = record { more = omega arith; tokens = e }
-  scan_counts bytes s out (t ∷ ts) l e =
-      after_step s.blanks t.from out (step names (bytes_of bytes t) t s) (λ k next. scan_from names bytes next (out ++ token k t.from ∷ []) ts)
+  resolve_counts : (bytes : List ℕ) (s : State) (out : List Token) (ts : List QueryToken) → AllMade s.blanks s.labels → Each (CountsToken s.blanks) out → IsCounted s.blanks (resolve_from names bytes s out ts)
+  unfolding resolve_from
+  resolve_counts bytes s out [] l e = record { more = omega arith; tokens = e }
+  resolve_counts bytes s out (t ∷ ts) l e =
+      after_step s.blanks t.from out (step names (bytes_of bytes t) t s) (λ k next. resolve_from names bytes next (out ++ token k t.from ∷ []) ts)
       (kind_holds t.kind (bytes_of bytes t) t.from s.before (s.end == t.from) (record s { before = before.Other; end = t.to }) l) e
-      (λ k next h g. scan_counts bytes next (out ++ token k t.from ∷ []) ts h.labels g)
+      (λ k next h g. resolve_counts bytes next (out ++ token k t.from ∷ []) ts h.labels g)
 
-  pub all_counted : (bytes : List ℕ) (ts : List QueryToken) → IsCounted 0 (scan_from names bytes begin [] ts)
-  all_counted bytes ts = scan_counts bytes begin [] ts tt (each_nil (CountsToken 0))
+  pub all_counted : (bytes : List ℕ) (ts : List QueryToken) → IsCounted 0 (resolve_from names bytes begin [] ts)
+  all_counted bytes ts = resolve_counts bytes begin [] ts tt (each_nil (CountsToken 0))

@@ -1,21 +1,21 @@
 -- Of tokens whose variables are below the width, the grammar makes a request whose variables are below the width.
 use Rattle.std.proofs.Common.{◌<◌, ◌≤◌, ℕ, List, [], ◌∷◌, Bool, true, false, Option, Some, None, arith}
-use Rattle.grammar_engine.specs.Engine.{Give, Misfit, Skip, Look, Call, Done, Not, first_of_list, Reads, give, misfit, skip, skip_end, look, call, call_not}
+use Rattle.grammar_model.specs.Parsers.{Return, Fail, Advance, Peek, Call, Done, Rejected, first_of_list, Reads, give, misfit, skip, skip_end, look, call, call_not}
 use Rattle.rows_core.specs.declared.pattern.Spot.{Spot}
 use Rattle.rows_core.specs.declared.pattern.TriplePattern.{TriplePattern}
 use Rattle.expr_eval.specs.declared.expr.Expr.{Expr}
 use Rattle.expr_eval.specs.declared.expr.Sign.{Sign}
 use Rattle.rdf_terms.specs.declared.term.Term.TheVariants.{Iri}
 use Rattle.algebra_core.specs.Query.{IsBelow}
-use Rattle.query_parts.specs.Translation.{Stage, number, boolean}
-use Rattle.sparql_scan.specs.declared.fault.Fault.{Fault}
-use Rattle.sparql_scan.specs.declared.kind.Kind.{Kind}
-use Rattle.sparql_scan.specs.declared.kind.Kind.TheVariants as kinds
-use Rattle.sparql_scan.specs.declared.kind.Token.{Token}
+use Rattle.algebra_translation.specs.Translation.{PartialGroup, number, boolean}
+use Rattle.sparql_resolve.specs.declared.fault.Fault.{Fault}
+use Rattle.sparql_resolve.specs.declared.kind.Kind.{Kind}
+use Rattle.sparql_resolve.specs.declared.kind.Kind.TheVariants as kinds
+use Rattle.sparql_resolve.specs.declared.kind.Token.{Token}
 use Rattle.sparql_parser.specs.declared.tokens.Terminal.TheVariants as terminals
-use Rattle.sparql_parser.specs.Grammar.{Part, Value, G, E, Request, body, sparql, where_by, triple, kind_of, need_by, choose, is_terminal, query_by, select_by, variables_by, condition_by, element_by, constraint_by, verb_by, signed_by, term_by, datatype_by, literal_by, object_by, subject_by, relational_by, additive_by, more_operands_by, unary_by, bound_by, primary_by, begins_condition, begins_term, begins_verb}
+use Rattle.sparql_parser.specs.Grammar.{Nonterminal, Value, G, E, Request, body, sparql, where_by, triple, kind_of, need_by, choose, is_terminal, query_by, select_by, variables_by, condition_by, element_by, constraint_by, verb_by, signed_by, term_by, datatype_by, literal_by, object_by, subject_by, relational_by, additive_by, more_operands_by, unary_by, bound_by, primary_by, begins_condition, begins_term, begins_verb}
 use Rattle.sparql_parser.specs.Grammar.{QueryUnit, SelectQuery, SelectBody, SelectClause, Variables, SolutionModifier, OrderClause, MoreConditions, OrderCondition, GroupGraphPattern, GroupGraphPatternSub, TriplesOrElements, Elements, AfterElement, Filter, OptionalGraphPattern, GroupElement, GroupOrUnionGraphPattern, MoreGroups, Constraint, TriplesBlock, MoreTriples, TriplesSameSubject, BlankSubject, PropertyList, MoreProperties, VerbObjects, ObjectList, MoreObjects, Object, BlankObject, VarOrTerm, SignedNumber, RdfLiteral, Expression, OrOperands, MoreOr, ConditionalAnd, AndOperands, MoreAnd, Relational, Additive, Operands, MoreOperands, Unary, Primary, Bracketed, BoundVariable, TermPair}
-use Rattle.sparql_parser.proofs.Fitting.{Each, each_nil, each_one, each_push, each_head, each_tail, FitsExpr, FitsKey, FitMany, FitSome, FitsPattern, FitsAlgebra, FitsStage, FitsGroup, fits_variable, fits_bound, fits_constant, fits_not, fits_signed, fits_call, fits_compare, fits_same, fits_or, fits_and, fits_sum, many_two, many_push, some_one, some_push, fits_union, fits_empty, fits_closed, fits_whole, fits_with_filter, fits_with_triples, fits_with_group, fits_with_option}
+use Rattle.sparql_parser.proofs.Fitting.{Each, each_nil, each_one, each_push, each_head, each_tail, FitsExpr, FitsKey, FitMany, FitSome, FitsPattern, FitsAlgebra, FitsPartialGroup, FitsGroup, fits_variable, fits_bound, fits_constant, fits_not, fits_signed, fits_call, fits_compare, fits_same, fits_or, fits_and, fits_sum, many_two, many_push, some_one, some_push, fits_union, fits_empty, fits_finished, fits_filtered, fits_with_filter, fits_with_triples, fits_with_group, fits_with_option}
 
 module _ (names width : ℕ) where
   abbrev pub IsNamed : ℕ → Type 0
@@ -43,7 +43,7 @@ module _ (names width : ℕ) where
   abbrev Ps : List TriplePattern → Type 0
   Ps ps = Each (FitsPattern width) ps
 
-  abbrev Fits : (q : Part) → Value q → Type 0
+  abbrev Fits : (q : Nonterminal) → Value q → Type 0
   Fits QueryUnit r = FitsRequest r
   Fits SelectQuery r = FitsRequest r
   Fits (SelectBody distinct) r = FitsRequest r
@@ -95,15 +95,15 @@ module _ (names width : ℕ) where
   Fits TermPair e = FitsExpr width e
 
   -- what is asked of what stands before a part
-  abbrev Owes : Part → Type 0
+  abbrev Owes : Nonterminal → Type 0
   Owes (Variables before) = Each IsNamed before
   Owes (MoreConditions before) = Each (FitsKey width) before
-  Owes (TriplesOrElements s) = FitsStage width s
-  Owes (Elements s) = FitsStage width s
-  Owes (AfterElement s) = FitsStage width s
-  Owes (Filter s) = FitsStage width s
-  Owes (OptionalGraphPattern s) = FitsStage width s
-  Owes (GroupElement s) = FitsStage width s
+  Owes (TriplesOrElements s) = FitsPartialGroup width s
+  Owes (Elements s) = FitsPartialGroup width s
+  Owes (AfterElement s) = FitsPartialGroup width s
+  Owes (Filter s) = FitsPartialGroup width s
+  Owes (OptionalGraphPattern s) = FitsPartialGroup width s
+  Owes (GroupElement s) = FitsPartialGroup width s
   Owes (MoreGroups left) = FitsAlgebra width left
   Owes (TriplesBlock before) = Ps before
   Owes (MoreTriples before) = Ps before
@@ -124,18 +124,18 @@ module _ (names width : ℕ) where
   Owes _ = Unit {0}
 
   -- each value that is given fits
-  abbrev Sound : (m : Part) → G (Value m) → Type 0
-  Sound m (Give v) = Fits m v
-  Sound m Misfit = Unit {0}
-  Sound m (Skip p) = Sound m p
-  Sound m (Look by) = (x : Option Token) → FitsKind (kind_of x) → Sound m (by x)
+  abbrev Sound : (m : Nonterminal) → G (Value m) → Type 0
+  Sound m (Return v) = Fits m v
+  Sound m Fail = Unit {0}
+  Sound m (Advance p) = Sound m p
+  Sound m (Peek by) = (x : Option Token) → FitsKind (kind_of x) → Sound m (by x)
   Sound m (Call q k) = Owes q × ((v : Value q) → Fits q v → Sound m (k v))
 
-  needed : (m : Part) (b : Bool) (p : G (Value m)) → Sound m p → Sound m (need_by b p)
+  needed : (m : Nonterminal) (b : Bool) (p : G (Value m)) → Sound m p → Sound m (need_by b p)
   needed m true p h = h
   needed m false p h = tt
 
-  chosen : (m : Part) (b : Bool) (p q : G (Value m)) → Sound m p → Sound m q → Sound m (choose b p q)
+  chosen : (m : Nonterminal) (b : Bool) (p q : G (Value m)) → Sound m p → Sound m q → Sound m (choose b p q)
   chosen m true p q g h = g
   chosen m false p q g h = h
 
@@ -165,8 +165,8 @@ module _ (names width : ℕ) where
     condition_sound kinds.Desc f = (tt, λ e h. h)
     condition_sound k f = tt
 
-    element_sound : (s : Stage) → FitsStage width s → (k : Kind) → FitsKind k → Sound (Elements s) (element_by s k)
-    element_sound s o kinds.ShutBrace f = fits_closed width s o
+    element_sound : (s : PartialGroup) → FitsPartialGroup width s → (k : Kind) → FitsKind k → Sound (Elements s) (element_by s k)
+    element_sound s o kinds.ShutBrace f = fits_finished width s o
     element_sound s o kinds.Filter f = (o, λ v h. h)
     element_sound s o kinds.Optional f = (o, λ v h. h)
     element_sound s o kinds.OpenBrace f = (o, λ v h. h)
@@ -254,12 +254,12 @@ module _ (names width : ℕ) where
     primary_sound k f = tt
 
     where_sound : (distinct : Bool) (select : Option (List ℕ)) → FitsSelect select → Sound (SelectBody distinct) (where_by distinct select)
-    where_sound distinct select s = (tt, λ g h. (tt, λ order k. record { select = s; body = fits_whole width g h; order = k }))
+    where_sound distinct select s = (tt, λ g h. (tt, λ order k. record { select = s; body = fits_filtered width g h; order = k }))
 
     pattern : (s p o : Spot) → IsBelow width s → IsBelow width p → IsBelow width o → FitsPattern width (triple s p o)
     pattern s p o a b c = (a, b, c)
 
-    sound : (q : Part) → Owes q → Sound q (body q)
+    sound : (q : Nonterminal) → Owes q → Sound q (body q)
     sound QueryUnit o = λ x f. query_sound (kind_of x) f
     sound SelectQuery o = λ x f. chosen SelectQuery (is_terminal terminals.Distinct (kind_of x)) _ _ (tt, λ v h. h) (tt, λ v h. h)
     sound (SelectBody distinct) o = (tt, λ select s x f. chosen (SelectBody distinct) (is_terminal terminals.Where (kind_of x)) _ _ (where_sound distinct select s) (where_sound distinct select s))
@@ -279,8 +279,8 @@ module _ (names width : ℕ) where
     sound (Filter s) o = (tt, λ e h. (fits_with_filter width s e o h, λ v g. g))
     sound (OptionalGraphPattern s) o = (tt, λ g h. (fits_with_option width s g o h, λ v i. i))
     sound (GroupElement s) o = (tt, λ a h. (fits_with_group width s a o h, λ v g. g))
-    sound GroupOrUnionGraphPattern o = (tt, λ g h. (fits_whole width g h, λ v i. i))
-    sound (MoreGroups left) o = λ x f. chosen (MoreGroups left) (is_terminal terminals.Union (kind_of x)) _ _ (tt, λ g h. (fits_union width left _ o (fits_whole width g h), λ v i. i)) o
+    sound GroupOrUnionGraphPattern o = (tt, λ g h. (fits_filtered width g h, λ v i. i))
+    sound (MoreGroups left) o = λ x f. chosen (MoreGroups left) (is_terminal terminals.Union (kind_of x)) _ _ (tt, λ g h. (fits_union width left _ o (fits_filtered width g h), λ v i. i)) o
     sound Constraint o = λ x f. constraint_sound (kind_of x) f
     sound (TriplesBlock before) o = (o, λ ps h. (h, λ v g. g))
     sound (MoreTriples before) o = λ x f. chosen (MoreTriples before) (is_terminal terminals.Dot (kind_of x)) _ _
@@ -322,16 +322,16 @@ module _ (names width : ℕ) where
     next_fits (t ∷ ts) e = each_head FitsToken t ts e
 
     module _ (stop : Fault) where
-      abbrev Kept : (m : Part) → E m → Type 0
+      abbrev Kept : (m : Nonterminal) → E m → Type 0
       Kept m (Done v us) = Fits m v × Each FitsToken us
-      Kept m (Not x) = Unit {0}
+      Kept m (Rejected x) = Unit {0}
 
-      keeps : (m : Part) (p : G (Value m)) (ts : List Token) (o : E m) → Reads (sparql stop) m p ts o → Each FitsToken ts → Sound m p → Kept m o
-      keeps m (Give v) ts _ give e s = (s, e)
-      keeps m Misfit ts _ misfit e s = tt
-      keeps m (Skip p) (t ∷ ts) o (skip r) e s = keeps m p ts o r (each_tail FitsToken t ts e) s
-      keeps m (Skip p) [] _ skip_end e s = tt
-      keeps m (Look by) ts o (look r) e s = keeps m (by (first_of_list ts)) ts o r e (s (first_of_list ts) (next_fits ts e))
+      keeps : (m : Nonterminal) (p : G (Value m)) (ts : List Token) (o : E m) → Reads (sparql stop) m p ts o → Each FitsToken ts → Sound m p → Kept m o
+      keeps m (Return v) ts _ give e s = (s, e)
+      keeps m Fail ts _ misfit e s = tt
+      keeps m (Advance p) (t ∷ ts) o (skip r) e s = keeps m p ts o r (each_tail FitsToken t ts e) s
+      keeps m (Advance p) [] _ skip_end e s = tt
+      keeps m (Peek by) ts o (look r) e s = keeps m (by (first_of_list ts)) ts o r e (s (first_of_list ts) (next_fits ts e))
       keeps m (Call q k) ts o (call {us} {v} r t) e s = let h = keeps q (body q) ts _ r e (sound q s.0) in keeps m (k v) us o t h.1 (s.1 v h.0)
       keeps m (Call q k) ts _ (call_not r) e s = tt
 

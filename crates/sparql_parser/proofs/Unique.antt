@@ -7,7 +7,7 @@ use Rattle.sparql_lexer.proofs.Query.{one_token_list, a_token_list}
 use Rattle.sparql_parser.specs.declared.fault.QueryFault.{QueryFault}
 use Rattle.sparql_parser.specs.declared.fault.QueryFault.TheVariants as faults
 use Rattle.sparql_parser.specs.Grammar.{QueryUnit, reads}
-use Rattle.sparql_scan.specs.Scan.{names_of, width_of, tokens_of, stop_of}
+use Rattle.sparql_resolve.specs.Resolving.{names_of, width_of, tokens_of, stop_of}
 use Rattle.sparql_parser.specs.Answer.{answer_by, IsRead, is_answer_by, IsAnswer, most_bytes}
 use Rattle.sparql_parser.proofs.Whole.{reads_it, only_one}
 

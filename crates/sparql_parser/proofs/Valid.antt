@@ -4,7 +4,7 @@ use Rattle.std.specs.Prelude.{nat_lt, ◌==◌, min, bytes_eq, map}
 use Rattle.std.specs.List.{list_any}
 use Rattle.std.proofs.lemmas.Bool.{ltb-true}
 use Rattle.std.proofs.lemmas.Slice.Eq.{bytes_eq-Decides}
-use Rattle.grammar_engine.specs.Engine.{Reads, Done, Not}
+use Rattle.grammar_model.specs.Parsers.{Reads, Done, Rejected}
 use Rattle.rdf_terms.specs.Lists.{IsIn, Apart}
 use Rattle.rdf_terms.proofs.Adding.{in_any}
 use Rattle.rdf_terms.proofs.Members.{in_either, from_map, apart_push}
@@ -15,15 +15,15 @@ use Rattle.algebra_core.specs.declared.query.Key.{Key}
 use Rattle.algebra_core.specs.declared.query.Query.{Query}
 use Rattle.algebra_core.specs.Meaning.{patterns_in, expressions_in}
 use Rattle.algebra_core.specs.Query.{IsValid, is_whole, key_expr}
-use Rattle.query_parts.specs.Translation.{with_once, once_from, stands_in, standing_from}
-use Rattle.token_texts.specs.Texts.{plain, variable_text}
+use Rattle.algebra_translation.specs.Translation.{with_once, once_from, stands_in, in_scope_from}
+use Rattle.terminals.specs.Texts.{plain, variable_text}
 use Rattle.sparql_lexer.specs.declared.kind.QueryKind.{QueryKind}
 use Rattle.sparql_lexer.specs.declared.kind.QueryKind.TheVariants as lexed
 use Rattle.sparql_lexer.specs.declared.token.QueryToken.{QueryToken}
-use Rattle.sparql_scan.specs.declared.kind.Kind.{Kind}
-use Rattle.sparql_scan.specs.declared.kind.Kind.TheVariants as kinds
-use Rattle.sparql_scan.specs.Names.{most_names}
-use Rattle.sparql_scan.specs.Scan.{names_from, name_from, with_name, bytes_of, scanning, names_of, width_of, tokens_of, stop_of}
+use Rattle.sparql_resolve.specs.declared.kind.Kind.{Kind}
+use Rattle.sparql_resolve.specs.declared.kind.Kind.TheVariants as kinds
+use Rattle.sparql_resolve.specs.Names.{most_names}
+use Rattle.sparql_resolve.specs.Resolving.{names_from, name_from, with_name, bytes_of, resolving, names_of, width_of, tokens_of, stop_of}
 use Rattle.sparql_parser.specs.declared.fault.QueryFault.{QueryFault}
 use Rattle.sparql_parser.specs.Grammar.{E, Request, QueryUnit, body, sparql}
 use Rattle.sparql_parser.specs.Answer.{selected, query, answer_by, IsRead, is_answer_by, IsAnswer, most_bytes}
@@ -83,7 +83,7 @@ kind_fits names blanks (kinds.OpenSquare n) h = below_least n (length names + bl
 kind_fits names blanks k h = tt
 
 tokens_fit : (bytes : List ℕ) (ts : List QueryToken) → Each (FitsToken (length (names_of bytes ts)) (width_of bytes ts)) (tokens_of bytes ts)
-tokens_fit bytes ts t i = kind_fits (names_of bytes ts) (scanning bytes ts).blanks t.kind ((all_counted (names_of bytes ts) bytes ts).tokens t i)
+tokens_fit bytes ts t i = kind_fits (names_of bytes ts) (resolving bytes ts).blanks t.kind ((all_counted (names_of bytes ts) bytes ts).tokens t i)
 
 least_above : (a b : ℕ) → a ≤ 65535 → a ≤ min (a + b) most_names
 least_above a b h = grind (arith, h)
@@ -124,9 +124,9 @@ standing_if true v n rest h =
 standing_if false v n rest h =
     record { from = λ w i. (let q = h.from w i in omega (arith, q)); to = λ w i. (let q = h.to w i in omega (arith, q)); apart = h.apart }
 
-standing_between : (v n : ℕ) (ps : List TriplePattern) → Between v n (standing_from v n ps)
+standing_between : (v n : ℕ) (ps : List TriplePattern) → Between v n (in_scope_from v n ps)
 standing_between v zero ps = record { from = λ w i. absurd i; to = λ w i. absurd i; apart = tt }
-standing_between v (suc n) ps = standing_if (stands_in v ps) v n (standing_from (v + 1) n ps) (standing_between (v + 1) n ps)
+standing_between v (suc n) ps = standing_if (stands_in v ps) v n (in_scope_from (v + 1) n ps) (standing_between (v + 1) n ps)
 
 selected_fits : (names : ℕ) (s : Option (List ℕ)) (a : Algebra) (width : ℕ) → FitsSelect names width s → FitSelect names (selected names s a)
 selected_fits names (Some all) a width h = once_fits names [] all (record { named = λ v i. absurd i; apart = tt }) h
@@ -156,9 +156,9 @@ Valid (Err e) = Unit {0}
 answer_valid : (bytes : List ℕ) (ts : List QueryToken) (o : E QueryUnit) → Reads (sparql (stop_of bytes ts)) QueryUnit (body QueryUnit) (tokens_of bytes ts) o → Valid (answer_by (names_of bytes ts) (width_of bytes ts) o)
 answer_valid bytes ts (Done r us) d =
     let n = all_names_fit bytes ts in
-    let le = least_above (length (names_of bytes ts)) (scanning bytes ts).blanks n.few in
+    let le = least_above (length (names_of bytes ts)) (resolving bytes ts).blanks n.few in
     query_valid (names_of bytes ts) (width_of bytes ts) r n le (request_fits (length (names_of bytes ts)) (width_of bytes ts) le (stop_of bytes ts) (tokens_of bytes ts) us r d (tokens_fit bytes ts))
-answer_valid bytes ts (Not x) d = tt
+answer_valid bytes ts (Rejected x) d = tt
 
 read_valid : (bytes : List ℕ) (ts : List QueryToken) (a : Result Query QueryFault) → IsRead bytes ts a → Valid a
 read_valid bytes ts a h = subst Valid (sym h.2) (answer_valid bytes ts h.0 h.1)

@@ -1,33 +1,33 @@
 -- The grammar's parts, and that it gives each list of tokens one answer.
 use Rattle.std.proofs.Common.{◌≡◌, ℕ, ◌≤◌, List, arith, rules, Bool, true, false}
-use Rattle.grammar_engine.specs.Engine.{Fine, Takes, Reads}
-use Rattle.grammar_engine.proofs.Reading.{one, opened, parse_reads}
+use Rattle.grammar_model.specs.Parsers.{Fine, Takes, Reads}
+use Rattle.grammar_model.proofs.Reading.{one, opened, parse_reads}
 use Rattle.rows_core.specs.declared.pattern.Spot.{Spot}
 use Rattle.rows_core.specs.declared.pattern.TriplePattern.{TriplePattern}
 use Rattle.expr_eval.specs.declared.expr.Expr.{Expr}
 use Rattle.expr_eval.specs.declared.expr.Sign.{Sign}
-use Rattle.query_parts.specs.Translation.{Stage}
-use Rattle.sparql_scan.specs.declared.fault.Fault.{Fault}
-use Rattle.sparql_scan.specs.declared.kind.Kind.{Kind}
-use Rattle.sparql_scan.specs.declared.kind.Kind.TheVariants as kinds
-use Rattle.sparql_scan.specs.declared.kind.Token.{Token}
+use Rattle.algebra_translation.specs.Translation.{PartialGroup}
+use Rattle.sparql_resolve.specs.declared.fault.Fault.{Fault}
+use Rattle.sparql_resolve.specs.declared.kind.Kind.{Kind}
+use Rattle.sparql_resolve.specs.declared.kind.Kind.TheVariants as kinds
+use Rattle.sparql_resolve.specs.declared.kind.Token.{Token}
 use Rattle.sparql_parser.specs.declared.tokens.Terminal.TheVariants as terminals
-use Rattle.sparql_parser.specs.Grammar.{Part, Value, G, E, body, rank, takes, reads, within, sparql, kind_of, need_by, choose, is_terminal, query_by, select_by, variables_by, condition_by, begins_condition, element_by, constraint_by, begins_verb, verb_by, begins_term, signed_by, term_by, datatype_by, literal_by, object_by, subject_by, relational_by, additive_by, more_operands_by, unary_by, bound_by, primary_by}
+use Rattle.sparql_parser.specs.Grammar.{Nonterminal, Value, G, E, body, rank, takes, reads, within, sparql, kind_of, need_by, choose, is_terminal, query_by, select_by, variables_by, condition_by, begins_condition, element_by, constraint_by, begins_verb, verb_by, begins_term, signed_by, term_by, datatype_by, literal_by, object_by, subject_by, relational_by, additive_by, more_operands_by, unary_by, bound_by, primary_by}
 use Rattle.sparql_parser.specs.Grammar.{QueryUnit, SelectQuery, SelectBody, SelectClause, Variables, SolutionModifier, OrderClause, MoreConditions, OrderCondition, GroupGraphPattern, GroupGraphPatternSub, TriplesOrElements, Elements, AfterElement, Filter, OptionalGraphPattern, GroupElement, GroupOrUnionGraphPattern, MoreGroups, Constraint, TriplesBlock, MoreTriples, TriplesSameSubject, BlankSubject, PropertyList, MoreProperties, VerbObjects, ObjectList, MoreObjects, Object, BlankObject, VarOrTerm, SignedNumber, RdfLiteral, Expression, OrOperands, MoreOr, ConditionalAnd, AndOperands, MoreAnd, Relational, Additive, Operands, MoreOperands, Unary, Primary, Bracketed, BoundVariable, TermPair}
 
-small : (q : Part) → rank q ≤ 8
+small : (q : Nonterminal) → rank q ≤ 8
 small QueryUnit = omega arith
 small q = omega arith
 
 module _ (stop : Fault) where
-  abbrev F : (m : Part) → ℕ → G (Value m) → Type 0
+  abbrev F : (m : Nonterminal) → ℕ → G (Value m) → Type 0
   F m r p = Fine (sparql stop) rank takes 8 m r p
 
-  needed : (m : Part) (r : ℕ) (b : Bool) (p : G (Value m)) → F m 8 p → F m r (need_by b p)
+  needed : (m : Nonterminal) (r : ℕ) (b : Bool) (p : G (Value m)) → F m 8 p → F m r (need_by b p)
   needed m r true p f = f
   needed m r false p f = tt
 
-  chosen : (m : Part) (r : ℕ) (b : Bool) (p q : G (Value m)) → F m r p → F m r q → F m r (choose b p q)
+  chosen : (m : Nonterminal) (r : ℕ) (b : Bool) (p q : G (Value m)) → F m r p → F m r q → F m r (choose b p q)
   chosen m r true p q f g = f
   chosen m r false p q f g = g
 
@@ -47,7 +47,7 @@ module _ (stop : Fault) where
   condition_fine kinds.Comma = search (rules, needed, chosen)
   condition_fine k = search (rules, needed, chosen)
 
-  element_fine : (s : Stage) (k : Kind) → F (Elements s) 0 (element_by s k)
+  element_fine : (s : PartialGroup) (k : Kind) → F (Elements s) 0 (element_by s k)
   element_fine s kinds.Comma = search (rules, needed, chosen)
   element_fine s k = search (rules, needed, chosen)
 
@@ -115,12 +115,12 @@ module _ (stop : Fault) where
   bracket_takes true p = tt
   bracket_takes false p = tt
 
-  all_take : (q : Part) → takes q ≡ true → Takes (sparql stop) rank takes 8 q (body q)
+  all_take : (q : Nonterminal) → takes q ≡ true → Takes (sparql stop) rank takes 8 q (body q)
   all_take OrderCondition e = λ x. condition_takes (kind_of x)
   all_take Bracketed e = λ x. bracket_takes _ _
   all_take q e = absurd cc
 
-  fine : (q : Part) → F q (rank q) (body q)
+  fine : (q : Nonterminal) → F q (rank q) (body q)
   fine QueryUnit = λ x. query_fine (kind_of x)
   fine SelectQuery = λ x. chosen SelectQuery 3 (is_terminal terminals.Distinct (kind_of x)) _ _ (search rules) (search rules)
   fine (SelectBody distinct) = (omega arith, λ select x. chosen (SelectBody distinct) 2 (is_terminal terminals.Where (kind_of x)) _ _ (search rules) (search rules))
@@ -172,7 +172,7 @@ module _ (stop : Fault) where
   fine TermPair = λ x. needed TermPair 0 (is_terminal terminals.OpenParen (kind_of x)) _ (omega arith, λ a y. needed TermPair 8 (is_terminal terminals.Comma (kind_of y)) _ (omega arith, λ b z. needed TermPair 8 (is_terminal terminals.ShutParen (kind_of z)) _ tt))
 
   -- a part is what its body says
-  pub part_is : (q : Part) (ts : List Token) → reads stop q ts ≡ within stop q ts
+  pub part_is : (q : Nonterminal) (ts : List Token) → reads stop q ts ≡ within stop q ts
   unfolding reads
   part_is q ts = opened (sparql stop) rank takes 8 all_take small fine q ts
 

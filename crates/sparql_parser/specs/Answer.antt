@@ -1,14 +1,14 @@
 -- What a text is answered: its query, or its first fault (docs/FORMATS.md, "Queries").
 use Rattle.std.specs.Prelude.{◌≡◌, ℕ, List, length, Bool, true, false, nat_lt, Option, Some, None, Result, Ok, Err}
-use Rattle.grammar_engine.specs.Engine.{Reads, Done, Not}
+use Rattle.grammar_model.specs.Parsers.{Reads, Done, Rejected}
 use Rattle.algebra_core.specs.declared.algebra.Algebra.{Algebra}
 use Rattle.algebra_core.specs.declared.query.Query.{Query}
-use Rattle.query_parts.specs.Translation.{once, selected_by_star}
+use Rattle.algebra_translation.specs.Translation.{once, selected_by_star}
 use Rattle.sparql_lexer.specs.declared.token.QueryToken.{QueryToken}
 use Rattle.sparql_lexer.specs.Tokens.{QueryTokens}
-use Rattle.sparql_scan.specs.declared.fault.Fault.{Fault}
-use Rattle.sparql_scan.specs.declared.fault.Fault.TheVariants as scanned
-use Rattle.sparql_scan.specs.Scan.{names_of, width_of, tokens_of, stop_of}
+use Rattle.sparql_resolve.specs.declared.fault.Fault.{Fault}
+use Rattle.sparql_resolve.specs.declared.fault.Fault.TheVariants as resolved
+use Rattle.sparql_resolve.specs.Resolving.{names_of, width_of, tokens_of, stop_of}
 use Rattle.sparql_parser.specs.declared.fault.QueryFault.{QueryFault}
 use Rattle.sparql_parser.specs.declared.fault.QueryFault.TheVariants as faults
 use Rattle.sparql_parser.specs.Grammar.{E, QueryUnit, Request, body, sparql}
@@ -37,14 +37,14 @@ query names width r =
     }
 
 abbrev pub fault : Fault → QueryFault
-fault (scanned.Syntax at) = faults.Syntax at
-fault (scanned.Unsupported at) = faults.Unsupported at
-fault (scanned.Deep at) = faults.Deep at
+fault (resolved.Syntax at) = faults.Syntax at
+fault (resolved.Unsupported at) = faults.Unsupported at
+fault (resolved.Deep at) = faults.Deep at
 
 -- the query, or the fault, of what the grammar reads
 abbrev pub answer_by : List (List ℕ) → ℕ → E QueryUnit → Result Query QueryFault
 answer_by names width (Done r rest) = Ok (query names width r)
-answer_by names width (Not f) = Err (fault f)
+answer_by names width (Rejected f) = Err (fault f)
 
 -- ---- of a text
 
@@ -68,14 +68,14 @@ IsAnswer bytes a = is_answer_by (nat_lt most_bytes (length bytes)) bytes a
 -- ---- what the code gives
 
 -- nothing is said where memory ran out
-abbrev pub ToldFault : (Result Query QueryFault → Type 0) → QueryFault → Type 0
-ToldFault P (faults.Syntax at) = P (Err (faults.Syntax at))
-ToldFault P (faults.Unsupported at) = P (Err (faults.Unsupported at))
-ToldFault P (faults.Deep at) = P (Err (faults.Deep at))
-ToldFault P faults.LongQuery = P (Err faults.LongQuery)
-ToldFault P faults.Memory = Unit {0}
+abbrev pub UnlessMemoryFault : (Result Query QueryFault → Type 0) → QueryFault → Type 0
+UnlessMemoryFault P (faults.Syntax at) = P (Err (faults.Syntax at))
+UnlessMemoryFault P (faults.Unsupported at) = P (Err (faults.Unsupported at))
+UnlessMemoryFault P (faults.Deep at) = P (Err (faults.Deep at))
+UnlessMemoryFault P faults.LongQuery = P (Err faults.LongQuery)
+UnlessMemoryFault P faults.Memory = Unit {0}
 
 -- the result is such an answer, unless memory ran out
-abbrev pub IsTold : (Result Query QueryFault → Type 0) → Result Query QueryFault → Type 0
-IsTold P (Ok q) = P (Ok q)
-IsTold P (Err e) = ToldFault P e
+abbrev pub UnlessMemory : (Result Query QueryFault → Type 0) → Result Query QueryFault → Type 0
+UnlessMemory P (Ok q) = P (Ok q)
+UnlessMemory P (Err e) = UnlessMemoryFault P e

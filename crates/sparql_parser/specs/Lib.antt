@@ -1,3 +1,3 @@
 pub mod Grammar
-pub mod Held
+pub mod Views
 pub mod Answer

@@ -2,16 +2,16 @@
 
 ghost use Rattle.std.specs.Prelude.{◌≡◌, ◌<◌, ◌≤◌, length, IfOk};
 ghost use Rattle.sparql_parser.specs.Grammar.{reads, Expression, OrOperands, ConditionalAnd, AndOperands, Relational, Additive, Operands, Unary, Primary, Bracketed, BoundVariable, TermPair, Constraint};
-ghost use Rattle.sparql_parser.specs.Held.{Gives};
+ghost use Rattle.sparql_parser.specs.Views.{Gives};
 
 use crate::literals::parse_literal;
 use crate::tokens::{Terminal, behind, first, misfit, need};
-use expr_eval::{Expr, Sign};
-use query_parts::{
+use algebra_translation::{
     all_of, any_of, boolean, called, compared, negated, number, same_term, signed, sum_of,
 };
+use expr_eval::{Expr, Sign};
 use rdf_terms::Term;
-use sparql_scan::{Fault, Kind, ScanError, Token};
+use sparql_resolve::{Fault, Kind, ResolveError, Token};
 use std::alloc::Global;
 
 #[tactic(auto, using(crate::proofs::Whole::part_is))]
@@ -20,7 +20,7 @@ fn parse_expression<'t>(
     alloc: Global,
     stop: Fault,
     tokens: &'t [Token],
-) -> Result<(Expr, &'t [Token]), ScanError>
+) -> Result<(Expr, &'t [Token]), ResolveError>
     ensures value { Gives (λ x. (x.0, x.1.now)) result (reads stop Expression tokens.now) }
     ensures fewer { IfOk result (λ x. length x.1.now < length tokens.now) }
 {
@@ -39,7 +39,7 @@ fn parse_more_or<'t>(
     stop: Fault,
     first: Expr,
     tokens: &'t [Token],
-) -> Result<(Expr, &'t [Token]), ScanError>
+) -> Result<(Expr, &'t [Token]), ResolveError>
     ensures value { Gives (λ x. (x.0, x.1.now)) result (reads stop (OrOperands first) tokens.now) }
     ensures fewer { IfOk result (λ x. length x.1.now < length tokens.now) }
 {
@@ -61,7 +61,7 @@ fn parse_and<'t>(
     alloc: Global,
     stop: Fault,
     tokens: &'t [Token],
-) -> Result<(Expr, &'t [Token]), ScanError>
+) -> Result<(Expr, &'t [Token]), ResolveError>
     ensures value { Gives (λ x. (x.0, x.1.now)) result (reads stop ConditionalAnd tokens.now) }
     ensures fewer { IfOk result (λ x. length x.1.now < length tokens.now) }
 {
@@ -80,7 +80,7 @@ fn parse_more_and<'t>(
     stop: Fault,
     first: Expr,
     tokens: &'t [Token],
-) -> Result<(Expr, &'t [Token]), ScanError>
+) -> Result<(Expr, &'t [Token]), ResolveError>
     ensures value { Gives (λ x. (x.0, x.1.now)) result (reads stop (AndOperands first) tokens.now) }
     ensures fewer { IfOk result (λ x. length x.1.now < length tokens.now) }
 {
@@ -102,7 +102,7 @@ fn parse_relational<'t>(
     alloc: Global,
     stop: Fault,
     tokens: &'t [Token],
-) -> Result<(Expr, &'t [Token]), ScanError>
+) -> Result<(Expr, &'t [Token]), ResolveError>
     ensures value { Gives (λ x. (x.0, x.1.now)) result (reads stop Relational tokens.now) }
     ensures fewer { IfOk result (λ x. length x.1.now < length tokens.now) }
 {
@@ -122,7 +122,7 @@ fn parse_additive<'t>(
     alloc: Global,
     stop: Fault,
     tokens: &'t [Token],
-) -> Result<(Expr, &'t [Token]), ScanError>
+) -> Result<(Expr, &'t [Token]), ResolveError>
     ensures value { Gives (λ x. (x.0, x.1.now)) result (reads stop Additive tokens.now) }
     ensures fewer { IfOk result (λ x. length x.1.now < length tokens.now) }
 {
@@ -144,7 +144,7 @@ fn parse_operands<'t>(
     stop: Fault,
     sign: Sign,
     tokens: &'t [Token],
-) -> Result<(Vec<(Sign, Expr)>, &'t [Token]), ScanError>
+) -> Result<(Vec<(Sign, Expr)>, &'t [Token]), ResolveError>
     ensures value { Gives (λ x. (x.0.items, x.1.now)) result (reads stop (Operands sign) tokens.now) }
     ensures fewer { IfOk result (λ x. length x.1.now < length tokens.now) }
 {
@@ -170,7 +170,7 @@ fn parse_unary<'t>(
     alloc: Global,
     stop: Fault,
     tokens: &'t [Token],
-) -> Result<(Expr, &'t [Token]), ScanError>
+) -> Result<(Expr, &'t [Token]), ResolveError>
     ensures value { Gives (λ x. (x.0, x.1.now)) result (reads stop Unary tokens.now) }
     ensures fewer { IfOk result (λ x. length x.1.now < length tokens.now) }
 {
@@ -196,7 +196,7 @@ fn parse_primary<'t>(
     alloc: Global,
     stop: Fault,
     tokens: &'t [Token],
-) -> Result<(Expr, &'t [Token]), ScanError>
+) -> Result<(Expr, &'t [Token]), ResolveError>
     ensures value { Gives (λ x. (x.0, x.1.now)) result (reads stop Primary tokens.now) }
     ensures fewer { IfOk result (λ x. length x.1.now < length tokens.now) }
 {
@@ -229,7 +229,7 @@ fn parse_primary<'t>(
 
 // What is behind BOUND.
 #[tactic(auto, using(crate::proofs::Whole::part_is))]
-fn parse_bound<'t>(stop: Fault, tokens: &'t [Token]) -> Result<(Expr, &'t [Token]), ScanError>
+fn parse_bound<'t>(stop: Fault, tokens: &'t [Token]) -> Result<(Expr, &'t [Token]), ResolveError>
     ensures value { Gives (λ x. (x.0, x.1.now)) result (reads stop BoundVariable tokens.now) }
     ensures fewer { IfOk result (λ x. length x.1.now ≤ length tokens.now) }
 {
@@ -253,7 +253,7 @@ fn parse_same_term<'t>(
     alloc: Global,
     stop: Fault,
     tokens: &'t [Token],
-) -> Result<(Expr, &'t [Token]), ScanError>
+) -> Result<(Expr, &'t [Token]), ResolveError>
     ensures value { Gives (λ x. (x.0, x.1.now)) result (reads stop TermPair tokens.now) }
     ensures fewer { IfOk result (λ x. length x.1.now ≤ length tokens.now) }
 {
@@ -272,7 +272,7 @@ pub fn parse_bracketed<'t>(
     alloc: Global,
     stop: Fault,
     tokens: &'t [Token],
-) -> Result<(Expr, &'t [Token]), ScanError>
+) -> Result<(Expr, &'t [Token]), ResolveError>
     ensures value { Gives (λ x. (x.0, x.1.now)) result (reads stop Bracketed tokens.now) }
     ensures fewer { IfOk result (λ x. length x.1.now < length tokens.now) }
 {
@@ -288,7 +288,7 @@ pub fn parse_constraint<'t>(
     alloc: Global,
     stop: Fault,
     tokens: &'t [Token],
-) -> Result<(Expr, &'t [Token]), ScanError>
+) -> Result<(Expr, &'t [Token]), ResolveError>
     ensures value { Gives (λ x. (x.0, x.1.now)) result (reads stop Constraint tokens.now) }
     ensures fewer { IfOk result (λ x. length x.1.now < length tokens.now) }
 {

@@ -3,7 +3,7 @@
 ghost use Rattle.std.specs.Prelude.{◌≡◌};
 
 use rdf_terms::Memory;
-use sparql_scan::{Fault, ScanError};
+use sparql_resolve::{Fault, ResolveError};
 use thiserror::Error;
 
 /// Why a text is not read as a query. A place is that of a token's first byte, or the text's length.

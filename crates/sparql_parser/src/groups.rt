@@ -1,19 +1,20 @@
 //! Groups.
 
 ghost use Rattle.std.specs.Prelude.{◌≡◌, ◌≤◌, ◌<◌, length, IfOk, IfErr};
-ghost use Rattle.query_parts.specs.Translation.{Stage as HeldStage};
-ghost use Rattle.query_parts.specs.Held.{view, view_group};
+ghost use Rattle.algebra_translation.specs.Translation.{PartialGroup as HeldStage};
+ghost use Rattle.algebra_translation.specs.Views.{view, view_group};
 ghost use Rattle.sparql_parser.specs.Grammar.{reads, GroupGraphPattern, GroupGraphPatternSub, TriplesOrElements, Elements, AfterElement, Filter, OptionalGraphPattern, GroupElement, GroupOrUnionGraphPattern, MoreGroups};
-ghost use Rattle.sparql_parser.specs.Held.{Gives, Fails, then_of};
+ghost use Rattle.sparql_parser.specs.Views.{Gives, Fails, then_of};
 
 use crate::exprs::parse_constraint;
 use crate::tokens::{Terminal, begins_term, behind, first, misfit, need};
 use crate::triples::parse_triples;
 use algebra_core::Algebra;
-use query_parts::{
-    Group, Stage, closed, empty_stage, united, whole, with_filter, with_group, with_option,
+use algebra_translation::{
+    Group, PartialGroup, empty_group, filtered, finish_group, united, with_filter, with_group,
+    with_option,
 };
-use sparql_scan::{Fault, Kind, ScanError, Token};
+use sparql_resolve::{Fault, Kind, ResolveError, Token};
 use std::alloc::Global;
 
 /// What came of an element.
@@ -21,7 +22,7 @@ use std::alloc::Global;
 pub enum Step {
     /// The group ends.
     Closed(Group),
-    More(Stage),
+    More(PartialGroup),
 }
 
 // The triples that may stand here.
@@ -29,9 +30,9 @@ pub enum Step {
 fn with_triples<'t>(
     alloc: Global,
     stop: Fault,
-    stage: Stage,
+    stage: PartialGroup,
     tokens: &'t [Token],
-) -> Result<(Stage, &'t [Token]), ScanError>
+) -> Result<(PartialGroup, &'t [Token]), ResolveError>
     ensures value { IfOk result (λ x. reads stop (TriplesOrElements (view stage)) tokens.now ≡ reads stop (Elements (view x.0)) x.1.now) }
     ensures fault { IfErr result (λ e. Fails e (reads stop (TriplesOrElements (view stage)) tokens.now)) }
     ensures fewer { IfOk result (λ x. length x.1.now ≤ length tokens.now) }
@@ -39,16 +40,16 @@ fn with_triples<'t>(
     if !begins_term(tokens) {
         return Ok((stage, tokens));
     }
-    let Stage {
-        plan,
+    let PartialGroup {
+        algebra,
         patterns,
         filters,
     } = stage;
     let mut patterns = patterns;
     let rest = parse_triples(alloc, stop, &mut patterns, tokens)?;
     Ok((
-        Stage {
-            plan,
+        PartialGroup {
+            algebra,
             patterns,
             filters,
         },
@@ -73,9 +74,9 @@ fn behind_element(tokens: &[Token]) -> &[Token]
 fn parse_filter<'t>(
     alloc: Global,
     stop: Fault,
-    stage: Stage,
+    stage: PartialGroup,
     tokens: &'t [Token],
-) -> Result<(Stage, &'t [Token]), ScanError>
+) -> Result<(PartialGroup, &'t [Token]), ResolveError>
     ensures value { IfOk result (λ x. reads stop (Filter (view stage)) tokens.now ≡ reads stop (AfterElement (view x.0)) x.1.now) }
     ensures fault { IfErr result (λ e. Fails e (reads stop (Filter (view stage)) tokens.now)) }
     ensures fewer { IfOk result (λ x. length x.1.now ≤ length tokens.now) }
@@ -91,7 +92,7 @@ pub fn parse_group<'t>(
     alloc: Global,
     stop: Fault,
     tokens: &'t [Token],
-) -> Result<(Group, &'t [Token]), ScanError>
+) -> Result<(Group, &'t [Token]), ResolveError>
     ensures value { Gives (λ x. (view_group x.0, x.1.now)) result (reads stop GroupGraphPattern tokens.now) }
     ensures fewer { IfOk result (λ x. length x.1.now < length tokens.now) }
 {
@@ -106,11 +107,11 @@ fn parse_inside<'t>(
     alloc: Global,
     stop: Fault,
     tokens: &'t [Token],
-) -> Result<(Group, &'t [Token]), ScanError>
+) -> Result<(Group, &'t [Token]), ResolveError>
     ensures value { Gives (λ x. (view_group x.0, x.1.now)) result (reads stop GroupGraphPatternSub tokens.now) }
     ensures fewer { IfOk result (λ x. length x.1.now ≤ length tokens.now) }
 {
-    let mut stage = empty_stage(alloc);
+    let mut stage = empty_group(alloc);
     let mut rest = tokens;
     'elements: loop {
         let (ready, left) = with_triples(alloc, stop, stage, rest)?;
@@ -131,9 +132,9 @@ fn parse_inside<'t>(
 fn parse_element<'t>(
     alloc: Global,
     stop: Fault,
-    stage: Stage,
+    stage: PartialGroup,
     tokens: &'t [Token],
-) -> Result<(Step, &'t [Token]), ScanError>
+) -> Result<(Step, &'t [Token]), ResolveError>
     ensures value { IfOk result (λ x. reads stop (Elements (view stage)) tokens.now ≡ then_of stop x.0 x.1.now) }
     ensures fault { IfErr result (λ e. Fails e (reads stop (Elements (view stage)) tokens.now)) }
     ensures fewer { IfOk result (λ x. length x.1.now < length tokens.now) }
@@ -142,7 +143,7 @@ fn parse_element<'t>(
         return Err(misfit(stop, tokens));
     };
     match &token.kind {
-        Kind::ShutBrace => Ok((Step::Closed(closed(alloc, stage)?), rest)),
+        Kind::ShutBrace => Ok((Step::Closed(finish_group(alloc, stage)?), rest)),
         Kind::Filter => {
             let (stage, rest) = parse_filter(alloc, stop, stage, rest)?;
             Ok((Step::More(stage), rest))
@@ -165,9 +166,9 @@ fn parse_element<'t>(
 fn parse_optional<'t>(
     alloc: Global,
     stop: Fault,
-    stage: Stage,
+    stage: PartialGroup,
     tokens: &'t [Token],
-) -> Result<(Stage, &'t [Token]), ScanError>
+) -> Result<(PartialGroup, &'t [Token]), ResolveError>
     ensures value { IfOk result (λ x. reads stop (OptionalGraphPattern (view stage)) tokens.now ≡ reads stop (AfterElement (view x.0)) x.1.now) }
     ensures fault { IfErr result (λ e. Fails e (reads stop (OptionalGraphPattern (view stage)) tokens.now)) }
     ensures fewer { IfOk result (λ x. length x.1.now ≤ length tokens.now) }
@@ -182,9 +183,9 @@ fn parse_optional<'t>(
 fn parse_groups<'t>(
     alloc: Global,
     stop: Fault,
-    stage: Stage,
+    stage: PartialGroup,
     tokens: &'t [Token],
-) -> Result<(Stage, &'t [Token]), ScanError>
+) -> Result<(PartialGroup, &'t [Token]), ResolveError>
     ensures value { IfOk result (λ x. reads stop (GroupElement (view stage)) tokens.now ≡ reads stop (AfterElement (view x.0)) x.1.now) }
     ensures fault { IfErr result (λ e. Fails e (reads stop (GroupElement (view stage)) tokens.now)) }
     ensures fewer { IfOk result (λ x. length x.1.now ≤ length tokens.now) }
@@ -200,12 +201,12 @@ fn parse_union<'t>(
     alloc: Global,
     stop: Fault,
     tokens: &'t [Token],
-) -> Result<(Algebra, &'t [Token]), ScanError>
+) -> Result<(Algebra, &'t [Token]), ResolveError>
     ensures value { Gives (λ x. (x.0, x.1.now)) result (reads stop GroupOrUnionGraphPattern tokens.now) }
     ensures fewer { IfOk result (λ x. length x.1.now ≤ length tokens.now) }
 {
     let (group, rest) = parse_inside(alloc, stop, tokens)?;
-    let left = whole(alloc, group)?;
+    let left = filtered(alloc, group)?;
     parse_more_groups(alloc, stop, left, rest)
 }
 
@@ -217,7 +218,7 @@ fn parse_more_groups<'t>(
     stop: Fault,
     left: Algebra,
     tokens: &'t [Token],
-) -> Result<(Algebra, &'t [Token]), ScanError>
+) -> Result<(Algebra, &'t [Token]), ResolveError>
     ensures value { Gives (λ x. (x.0, x.1.now)) result (reads stop (MoreGroups left) tokens.now) }
     ensures fewer { IfOk result (λ x. length x.1.now ≤ length tokens.now) }
 {
@@ -225,7 +226,7 @@ fn parse_more_groups<'t>(
     let mut rest = tokens;
     while let Some(after) = behind(Terminal::Union, rest) {
         let (group, next) = parse_group(alloc, stop, after)?;
-        let right = whole(alloc, group)?;
+        let right = filtered(alloc, group)?;
         all = united(alloc, all, right)?;
         rest = next;
     }

@@ -2,10 +2,10 @@
 //!
 //! Promise: `read_query` gives a text's query exactly where the text is of the profile, and else its
 //! first fault, with its kind and its place (`specs/Answer.antt`). The grammar is data, in the names
-//! of SPARQL 1.1, section 19.8 (`specs/Grammar.antt`); what its parts make is in `query_parts`. Each
+//! of SPARQL 1.1, section 19.8 (`specs/Grammar.antt`); what its parts make is in `algebra_translation`. Each
 //! text has exactly one answer (`one_answer`), and each query that is given is valid.
-//! Not here: tokens (`sparql_lexer`) and what they stand for (`sparql_scan`), the algebra
-//! (`query_parts`), and what a query means (`algebra_core`).
+//! Not here: tokens (`sparql_lexer`) and what they stand for (`sparql_resolve`), the algebra
+//! (`algebra_translation`), and what a query means (`algebra_core`).
 //!
 //! Want of memory is `Memory`.
 #![tactic(auto)]

@@ -2,14 +2,14 @@
 
 ghost use Rattle.std.specs.Prelude.{◌≡◌, ◌<◌, ◌≤◌, length, IfOk};
 ghost use Rattle.sparql_parser.specs.Grammar.{reads, RdfLiteral, SignedNumber, VarOrTerm};
-ghost use Rattle.sparql_parser.specs.Held.{Gives};
+ghost use Rattle.sparql_parser.specs.Views.{Gives};
 
 use crate::tokens::{first, misfit};
+use algebra_translation::{boolean, number, plain_text, signed_number, tagged_text, typed_text};
 use expr_eval::Sign;
-use query_parts::{boolean, number, plain_text, signed_number, tagged_text, typed_text};
 use rdf_terms::{Term, TextBuf};
 use rows_core::Spot;
-use sparql_scan::{Fault, Kind, ScanError, Token};
+use sparql_resolve::{Fault, Kind, ResolveError, Token};
 use std::alloc::Global;
 
 /// The literal of a string, with the tag or the datatype that may stand behind it.
@@ -19,7 +19,7 @@ pub fn parse_literal<'t>(
     stop: Fault,
     text: &TextBuf,
     tokens: &'t [Token],
-) -> Result<(Term, &'t [Token]), ScanError>
+) -> Result<(Term, &'t [Token]), ResolveError>
     ensures value { Gives (λ x. (x.0, x.1.now)) result (reads stop (RdfLiteral text.now) tokens.now) }
     ensures fewer { IfOk result (λ x. length x.1.now ≤ length tokens.now) }
 {
@@ -46,7 +46,7 @@ fn parse_signed<'t>(
     stop: Fault,
     sign: Sign,
     tokens: &'t [Token],
-) -> Result<(Spot, &'t [Token]), ScanError>
+) -> Result<(Spot, &'t [Token]), ResolveError>
     ensures value { Gives (λ x. (x.0, x.1.now)) result (reads stop (SignedNumber sign) tokens.now) }
     ensures fewer { IfOk result (λ x. length x.1.now ≤ length tokens.now) }
 {
@@ -77,7 +77,7 @@ pub fn parse_term<'t>(
     alloc: Global,
     stop: Fault,
     tokens: &'t [Token],
-) -> Result<(Spot, &'t [Token]), ScanError>
+) -> Result<(Spot, &'t [Token]), ResolveError>
     ensures value { Gives (λ x. (x.0, x.1.now)) result (reads stop VarOrTerm tokens.now) }
     ensures fewer { IfOk result (λ x. length x.1.now < length tokens.now) }
 {

@@ -2,15 +2,15 @@
 
 ghost use Rattle.std.specs.Prelude.{◌≡◌, ◌≤◌, ◌<◌, [], length, IfOk, option_map};
 ghost use Rattle.sparql_parser.specs.Grammar.{reads, key, QueryUnit, SelectQuery, SelectBody, SelectClause, Variables, SolutionModifier, OrderClause, OrderCondition};
-ghost use Rattle.sparql_parser.specs.Held.{Gives, view_found};
+ghost use Rattle.sparql_parser.specs.Views.{Gives, view_found};
 
 use crate::exprs::parse_bracketed;
 use crate::groups::parse_group;
 use crate::tokens::{Terminal, begins_condition, behind, first, misfit, need};
 use algebra_core::{Algebra, Key};
+use algebra_translation::filtered;
 use expr_eval::Expr;
-use query_parts::whole;
-use sparql_scan::{Fault, Kind, ScanError, Token};
+use sparql_resolve::{Fault, Kind, ResolveError, Token};
 use std::alloc::Global;
 
 /// What a query says, but for the names of its variables.
@@ -35,7 +35,7 @@ fn parse_condition<'t>(
     alloc: Global,
     stop: Fault,
     tokens: &'t [Token],
-) -> Result<(Key, &'t [Token]), ScanError>
+) -> Result<(Key, &'t [Token]), ResolveError>
     ensures value { Gives (λ x. (x.0, x.1.now)) result (reads stop OrderCondition tokens.now) }
     ensures fewer { IfOk result (λ x. length x.1.now < length tokens.now) }
 {
@@ -66,7 +66,7 @@ fn parse_conditions<'t>(
     alloc: Global,
     stop: Fault,
     tokens: &'t [Token],
-) -> Result<(Vec<Key>, &'t [Token]), ScanError>
+) -> Result<(Vec<Key>, &'t [Token]), ResolveError>
     ensures value { Gives (λ x. (x.0.items, x.1.now)) result (reads stop OrderClause tokens.now) }
 {
     let mut all = Vec::new(alloc);
@@ -86,7 +86,7 @@ fn parse_modifier<'t>(
     alloc: Global,
     stop: Fault,
     tokens: &'t [Token],
-) -> Result<(Vec<Key>, &'t [Token]), ScanError>
+) -> Result<(Vec<Key>, &'t [Token]), ResolveError>
     ensures value { Gives (λ x. (x.0.items, x.1.now)) result (reads stop SolutionModifier tokens.now) }
 {
     match behind(Terminal::Order, tokens) {
@@ -108,7 +108,7 @@ fn parse_variables<'t>(
     alloc: Global,
     stop: Fault,
     tokens: &'t [Token],
-) -> Result<(Vec<u16>, &'t [Token]), ScanError>
+) -> Result<(Vec<u16>, &'t [Token]), ResolveError>
     ensures value { Gives (λ x. (x.0.items, x.1.now)) result (reads stop (Variables []) tokens.now) }
 {
     let mut all = Vec::new(alloc);
@@ -129,7 +129,7 @@ fn parse_select_clause<'t>(
     alloc: Global,
     stop: Fault,
     tokens: &'t [Token],
-) -> Result<(Option<Vec<u16>>, &'t [Token]), ScanError>
+) -> Result<(Option<Vec<u16>>, &'t [Token]), ResolveError>
     ensures value { Gives (λ x. (option_map (λ all. all.items) x.0, x.1.now)) result (reads stop SelectClause tokens.now) }
 {
     let Some((token, rest)) = first(tokens) else {
@@ -152,7 +152,7 @@ fn parse_select_body<'t>(
     stop: Fault,
     distinct: bool,
     tokens: &'t [Token],
-) -> Result<(Found, &'t [Token]), ScanError>
+) -> Result<(Found, &'t [Token]), ResolveError>
     ensures value { Gives (λ x. (view_found x.0, x.1.now)) result (reads stop (SelectBody distinct) tokens.now) }
 {
     let (select, rest) = parse_select_clause(alloc, stop, tokens)?;
@@ -161,7 +161,7 @@ fn parse_select_body<'t>(
         None => rest,
     };
     let (group, rest) = parse_group(alloc, stop, rest)?;
-    let body = whole(alloc, group)?;
+    let body = filtered(alloc, group)?;
     let (order, rest) = parse_modifier(alloc, stop, rest)?;
     Ok((
         Found {
@@ -180,7 +180,7 @@ fn parse_select<'t>(
     alloc: Global,
     stop: Fault,
     tokens: &'t [Token],
-) -> Result<(Found, &'t [Token]), ScanError>
+) -> Result<(Found, &'t [Token]), ResolveError>
     ensures value { Gives (λ x. (view_found x.0, x.1.now)) result (reads stop SelectQuery tokens.now) }
 {
     match behind(Terminal::Distinct, tokens) {
@@ -195,7 +195,7 @@ pub fn parse_query<'t>(
     alloc: Global,
     stop: Fault,
     tokens: &'t [Token],
-) -> Result<(Found, &'t [Token]), ScanError>
+) -> Result<(Found, &'t [Token]), ResolveError>
     ensures value { Gives (λ x. (view_found x.0, x.1.now)) result (reads stop QueryUnit tokens.now) }
 {
     let mut rest = tokens;

@@ -4,17 +4,17 @@ ghost use Rattle.std.specs.Prelude.{◌≡◌, ◌≤◌, All, length, IfOk, opt
 ghost use Rattle.algebra_core.specs.Query.{IsValid};
 ghost use Rattle.sparql_lexer.specs.Tokens.{HasSpan};
 ghost use Rattle.sparql_parser.specs.Answer as spec;
-ghost use Rattle.sparql_parser.specs.Answer.{IsTold};
+ghost use Rattle.sparql_parser.specs.Answer.{UnlessMemory};
 ghost use Rattle.sparql_parser.specs.Grammar.{reads, QueryUnit};
-ghost use Rattle.sparql_parser.specs.Held.{view_found};
+ghost use Rattle.sparql_parser.specs.Views.{view_found};
 
 use crate::fault::QueryFault;
 use crate::queries::{Found, parse_query};
 use algebra_core::{Query, patterns};
-use query_parts::{once, selected_by_star};
+use algebra_translation::{once, selected_by_star};
 use rdf_terms::{Memory, Seq, TextBuf};
 use sparql_lexer::{QueryToken, lex_sparql};
-use sparql_scan::{Fault, ScanError, Scanned, scan};
+use sparql_resolve::{Fault, ResolveError, Resolved, resolve};
 use std::alloc::Global;
 
 /// How many bytes a query may have.
@@ -67,36 +67,36 @@ fn query_of(alloc: Global, names: Seq<TextBuf>, width: u16, found: Found) -> Res
     Ok(query)
 }
 
-// The query of a scan's tokens, or the first fault.
-fn read_scanned(alloc: Global, scanned: Scanned) -> Result<Query, QueryFault>
-    requires { length scanned.names ≤ 65535 }
-    ensures { IsTold (λ a. a ≡ spec.answer_by scanned.names scanned.width (reads scanned.stop QueryUnit scanned.tokens)) result }
+// The query of resolved tokens, or the first fault.
+fn read_resolved(alloc: Global, resolved: Resolved) -> Result<Query, QueryFault>
+    requires { length resolved.names ≤ 65535 }
+    ensures { UnlessMemory (λ a. a ≡ spec.answer_by resolved.names resolved.width (reads resolved.stop QueryUnit resolved.tokens)) result }
 {
-    let Scanned {
+    let Resolved {
         names,
         width,
         tokens,
         stop,
-    } = scanned;
+    } = resolved;
     match parse_query(alloc, stop, tokens.as_slice()) {
         Ok((found, _)) => Ok(query_of(alloc, names, width, found)?),
-        Err(ScanError::Fault(fault)) => Err(fault_of(fault)),
-        Err(ScanError::Memory) => Err(QueryFault::Memory),
+        Err(ResolveError::Fault(fault)) => Err(fault_of(fault)),
+        Err(ResolveError::Memory) => Err(QueryFault::Memory),
     }
 }
 
 // The query of a text's tokens, or the first fault.
 fn read_tokens(alloc: Global, text: &str, tokens: &[QueryToken]) -> Result<Query, QueryFault>
     requires { All (HasSpan (length text.now)) tokens.now }
-    ensures { IsTold (spec.IsRead text.now tokens.now) result }
+    ensures { UnlessMemory (spec.IsRead text.now tokens.now) result }
 {
-    let scanned = scan(alloc, text, tokens)?;
-    read_scanned(alloc, scanned)
+    let resolved = resolve(alloc, text, tokens)?;
+    read_resolved(alloc, resolved)
 }
 
 // The answer to a text that is not too long.
 fn read_short(alloc: Global, text: &str) -> Result<Query, QueryFault>
-    ensures { IsTold (spec.IsShortAnswer text.now) result }
+    ensures { UnlessMemory (spec.IsShortAnswer text.now) result }
 {
     let tokens = lex_sparql(alloc, text)?;
     read_tokens(alloc, text, tokens.as_slice())
@@ -106,7 +106,7 @@ fn read_short(alloc: Global, text: &str) -> Result<Query, QueryFault>
 /// most 65,536 bytes, in the IRIs that its names stand for, since each is written out, and in the base
 /// in force for each IRIREF; at most 32 groups, brackets and nodes are open at once.
 pub fn read_query(alloc: Global, text: &str) -> Result<Query, QueryFault>
-    ensures answer { IsTold (spec.IsAnswer text.now) result }
+    ensures answer { UnlessMemory (spec.IsAnswer text.now) result }
     ensures valid { IfOk result IsValid }
 {
     if text.len() > MOST_BYTES {

@@ -1,13 +1,13 @@
 //! The tokens that are left, and what is at their beginning.
 
 ghost use Rattle.std.specs.Prelude.{◌≡◌, option_map};
-ghost use Rattle.grammar_engine.specs.Engine.{first_of_list};
+ghost use Rattle.grammar_model.specs.Parsers.{first_of_list};
 ghost use Rattle.sparql_parser.specs.Grammar as grammar;
 ghost use Rattle.sparql_parser.specs.Grammar.{is_terminal, fault_of, kind_of};
-ghost use Rattle.sparql_parser.specs.Held.{FirstIs, Behind, Needed, rest_of};
+ghost use Rattle.sparql_parser.specs.Views.{FirstIs, Behind, Needed, rest_of};
 
 use expr_eval::Sign;
-use sparql_scan::{Fault, Kind, ScanError, Token};
+use sparql_resolve::{Fault, Kind, ResolveError, Token};
 
 /// A kind of token that the grammar wants at a place.
 #[derive(Clone, Copy)]
@@ -83,16 +83,16 @@ fn is_unsupported(kind: &Kind) -> bool
 }
 
 /// The fault where the first token does not fit; `stop` is that behind all tokens.
-pub fn misfit(stop: Fault, tokens: &[Token]) -> ScanError
-    ensures { result ≡ ScanError.Fault (fault_of stop tokens.now) }
+pub fn misfit(stop: Fault, tokens: &[Token]) -> ResolveError
+    ensures { result ≡ ResolveError.Fault (fault_of stop tokens.now) }
 {
     match tokens {
-        [] => ScanError::Fault(stop),
+        [] => ResolveError::Fault(stop),
         [token, ..] => {
             if is_unsupported(&token.kind) {
-                ScanError::Fault(Fault::Unsupported(token.from))
+                ResolveError::Fault(Fault::Unsupported(token.from))
             } else {
-                ScanError::Fault(Fault::Syntax(token.from))
+                ResolveError::Fault(Fault::Syntax(token.from))
             }
         }
     }
@@ -121,7 +121,7 @@ pub fn need<'t>(
     stop: Fault,
     terminal: Terminal,
     tokens: &'t [Token],
-) -> Result<&'t [Token], ScanError>
+) -> Result<&'t [Token], ResolveError>
     ensures { Needed stop (is_terminal terminal) tokens.now (rest_of (λ r. r.now) result) }
 {
     match tokens {

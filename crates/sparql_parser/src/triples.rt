@@ -2,14 +2,14 @@
 
 ghost use Rattle.std.specs.Prelude.{◌≡◌, ◌≤◌, ◌<◌, length, IfOk};
 ghost use Rattle.sparql_parser.specs.Grammar.{reads, TriplesBlock, TriplesSameSubject, BlankSubject, PropertyList, VerbObjects, ObjectList, Object, BlankObject, triple};
-ghost use Rattle.sparql_parser.specs.Held.{Gives};
+ghost use Rattle.sparql_parser.specs.Views.{Gives};
 
 use crate::literals::parse_term;
 use crate::tokens::{Terminal, begins_term, begins_verb, behind, first, misfit, need};
-use query_parts::type_iri;
+use algebra_translation::type_iri;
 use rdf_terms::{Memory, Term};
 use rows_core::{Spot, TriplePattern};
-use sparql_scan::{Fault, Kind, ScanError, Token};
+use sparql_resolve::{Fault, Kind, ResolveError, Token};
 use std::alloc::Global;
 
 /// The triples that stand together; they are added to `out`.
@@ -19,7 +19,7 @@ pub fn parse_triples<'t>(
     stop: Fault,
     out: &mut Vec<TriplePattern>,
     tokens: &'t [Token],
-) -> Result<&'t [Token], ScanError>
+) -> Result<&'t [Token], ResolveError>
     ensures value { Gives (λ x. (out.new.items, x.now)) result (reads stop (TriplesBlock out.old.items) tokens.now) }
     ensures fewer { IfOk result (λ x. length x.now < length tokens.now) }
 {
@@ -40,7 +40,7 @@ fn parse_same_subject<'t>(
     stop: Fault,
     out: &mut Vec<TriplePattern>,
     tokens: &'t [Token],
-) -> Result<&'t [Token], ScanError>
+) -> Result<&'t [Token], ResolveError>
     ensures value { Gives (λ x. (out.new.items, x.now)) result (reads stop (TriplesSameSubject out.old.items) tokens.now) }
     ensures fewer { IfOk result (λ x. length x.now < length tokens.now) }
 {
@@ -61,7 +61,7 @@ fn parse_blank_subject<'t>(
     out: &mut Vec<TriplePattern>,
     variable: u16,
     tokens: &'t [Token],
-) -> Result<&'t [Token], ScanError>
+) -> Result<&'t [Token], ResolveError>
     ensures value { Gives (λ x. (out.new.items, x.now)) result (reads stop (BlankSubject variable out.old.items) tokens.now) }
     ensures fewer { IfOk result (λ x. length x.now < length tokens.now) }
 {
@@ -87,7 +87,7 @@ fn parse_properties<'t>(
     out: &mut Vec<TriplePattern>,
     subject: &Spot,
     tokens: &'t [Token],
-) -> Result<&'t [Token], ScanError>
+) -> Result<&'t [Token], ResolveError>
     ensures value { Gives (λ x. (out.new.items, x.now)) result (reads stop (PropertyList subject.now out.old.items) tokens.now) }
     ensures fewer { IfOk result (λ x. length x.now < length tokens.now) }
 {
@@ -111,7 +111,7 @@ fn parse_verb<'t>(
     out: &mut Vec<TriplePattern>,
     subject: &Spot,
     tokens: &'t [Token],
-) -> Result<&'t [Token], ScanError>
+) -> Result<&'t [Token], ResolveError>
     ensures value { Gives (λ x. (out.new.items, x.now)) result (reads stop (VerbObjects subject.now out.old.items) tokens.now) }
     ensures fewer { IfOk result (λ x. length x.now < length tokens.now) }
 {
@@ -141,7 +141,7 @@ fn parse_objects<'t>(
     subject: &Spot,
     verb: &Spot,
     tokens: &'t [Token],
-) -> Result<&'t [Token], ScanError>
+) -> Result<&'t [Token], ResolveError>
     ensures value { Gives (λ x. (out.new.items, x.now)) result (reads stop (ObjectList subject.now verb.now out.old.items) tokens.now) }
     ensures fewer { IfOk result (λ x. length x.now < length tokens.now) }
 {
@@ -172,7 +172,7 @@ fn parse_object<'t>(
     stop: Fault,
     out: &mut Vec<TriplePattern>,
     tokens: &'t [Token],
-) -> Result<(Spot, &'t [Token]), ScanError>
+) -> Result<(Spot, &'t [Token]), ResolveError>
     ensures value { Gives (λ x. ((out.new.items, x.0), x.1.now)) result (reads stop (Object out.old.items) tokens.now) }
     ensures fewer { IfOk result (λ x. length x.1.now < length tokens.now) }
 {
@@ -193,7 +193,7 @@ fn parse_blank_object<'t>(
     out: &mut Vec<TriplePattern>,
     variable: u16,
     tokens: &'t [Token],
-) -> Result<(Spot, &'t [Token]), ScanError>
+) -> Result<(Spot, &'t [Token]), ResolveError>
     ensures value { Gives (λ x. ((out.new.items, x.0), x.1.now)) result (reads stop (BlankObject variable out.old.items) tokens.now) }
     ensures fewer { IfOk result (λ x. length x.1.now < length tokens.now) }
 {

@@ -7,7 +7,7 @@ use Rattle.std.proofs.lemmas.Option.{same_Some}
 use Rattle.std.proofs.lemmas.Slice.Eq.{slice_eq-Decides}
 use Rattle.rdf_terms.specs.declared.term.Term.{Term}
 use Rattle.rdf_terms.proofs.Deciding.{term_Decides}
-use Rattle.rows_core.specs.Rows.{Cells, cell_or_free, fits}
+use Rattle.rows_core.specs.Rows.{Cells, cell_or_unbound, fits}
 use Rattle.rows_core.proofs.Domains.{binds_of}
 use Rattle.rows_core.proofs.Joining.{fits_Decides}
 use Rattle.symmetric_join.specs.Keys.{Key, same_key, with_term, before_terms, key_of}
@@ -36,12 +36,12 @@ snoc_more (Some x) d None m ts e h = absurd (cc)
 snoc_more (Some x) d (Some rs) m ts e h =
     ap (before_terms (Some x)) (h rs refl) ∙ (with_more x rs d ∙ ap (λ (l : List Term). with_term l d) (same_Some (x ∷ rs) ts e))
 
-key_snoc : (vs : List ℕ) (v : ℕ) (row : Cells) (ts : List Term) → key_of vs row ≡ Some ts → key_of (vs ++ v ∷ []) row ≡ with_term ts (cell_or_free (slice_get row v))
-key_snoc [] v row ts e = snoc_one (cell_or_free (slice_get row v)) ∙ ap (λ (l : List Term). with_term l (cell_or_free (slice_get row v))) (same_Some [] ts e)
+key_snoc : (vs : List ℕ) (v : ℕ) (row : Cells) (ts : List Term) → key_of vs row ≡ Some ts → key_of (vs ++ v ∷ []) row ≡ with_term ts (cell_or_unbound (slice_get row v))
+key_snoc [] v row ts e = snoc_one (cell_or_unbound (slice_get row v)) ∙ ap (λ (l : List Term). with_term l (cell_or_unbound (slice_get row v))) (same_Some [] ts e)
 key_snoc (u ∷ us) v row ts e =
-    snoc_more (cell_or_free (slice_get row u)) (cell_or_free (slice_get row v)) (key_of us row) (key_of (us ++ v ∷ []) row) ts e (λ rs f. key_snoc us v row rs f)
+    snoc_more (cell_or_unbound (slice_get row u)) (cell_or_unbound (slice_get row v)) (key_of us row) (key_of (us ++ v ∷ []) row) ts e (λ rs f. key_snoc us v row rs f)
 
-pub key_more : (vs : List ℕ) (row : Cells) (ts : List Term) (i d : ℕ) → i < length vs → key_of (take i vs) row ≡ Some ts → key_of (take (i + 1) vs) row ≡ with_term ts (cell_or_free (slice_get row (get_or vs i d)))
+pub key_more : (vs : List ℕ) (row : Cells) (ts : List Term) (i d : ℕ) → i < length vs → key_of (take i vs) row ≡ Some ts → key_of (take (i + 1) vs) row ≡ with_term ts (cell_or_unbound (slice_get row (get_or vs i d)))
 key_more vs row ts i d h e = ap (λ (l : List ℕ). key_of l row) (take_more vs i d h) ∙ key_snoc (take i vs) (get_or vs i d) row ts e
 
 none_cons : (c : Option Term) (k m : Key) → before_terms c k ≡ None → (k ≡ None → m ≡ None) → before_terms c m ≡ None
@@ -51,13 +51,13 @@ none_cons (Some x) (Some rs) m e h = absurd (cc)
 
 none_more : (vs ws : List ℕ) (row : Cells) → key_of vs row ≡ None → key_of (vs ++ ws) row ≡ None
 none_more [] ws row e = absurd (cc)
-none_more (v ∷ vs) ws row e = none_cons (cell_or_free (slice_get row v)) (key_of vs row) (key_of (vs ++ ws) row) e (λ f. none_more vs ws row f)
+none_more (v ∷ vs) ws row e = none_cons (cell_or_unbound (slice_get row v)) (key_of vs row) (key_of (vs ++ ws) row) e (λ f. none_more vs ws row f)
 
 -- a row that leaves one of the first variables unbound has no key
 key_stops : (vs : List ℕ) (row : Cells) (i : ℕ) → key_of (take i vs) row ≡ None → key_of vs row ≡ None
 key_stops vs row i e = subst (λ (l : List ℕ). key_of l row ≡ None) (take-append-drop i vs) (none_more (take i vs) (drop i vs) row e)
 
-pub key_ends : (vs : List ℕ) (row : Cells) (ts : List Term) (i d : ℕ) → i < length vs → key_of (take i vs) row ≡ Some ts → with_term ts (cell_or_free (slice_get row (get_or vs i d))) ≡ None → key_of vs row ≡ None
+pub key_ends : (vs : List ℕ) (row : Cells) (ts : List Term) (i d : ℕ) → i < length vs → key_of (take i vs) row ≡ Some ts → with_term ts (cell_or_unbound (slice_get row (get_or vs i d))) ≡ None → key_of vs row ≡ None
 key_ends vs row ts i d h e f = key_stops vs row (i + 1) (key_more vs row ts i d h e ∙ f)
 
 -- ---- rows that fit
@@ -78,8 +78,8 @@ opened (Some x) (Some rs) ts e = record { first = x; rest = rs; is_first = refl;
 pub fit_keys : (vs : List ℕ) (a b : Cells) (ks ls : List Term) → fits a b ≡ true → key_of vs a ≡ Some ks → key_of vs b ≡ Some ls → ks ≡ ls
 fit_keys [] a b ks ls h e f = same_Some ks ls (sym e ∙ f)
 fit_keys (v ∷ vs) a b ks ls h e f =
-    let m = opened (cell_or_free (slice_get a v)) (key_of vs a) ks e in
-    let n = opened (cell_or_free (slice_get b v)) (key_of vs b) ls f in
+    let m = opened (cell_or_unbound (slice_get a v)) (key_of vs a) ks e in
+    let n = opened (cell_or_unbound (slice_get b v)) (key_of vs b) ls f in
     let one : m.first ≡ n.first = ((fits_Decides a b).0 h).1 v m.first n.first (binds_of v a m.first m.is_first) (binds_of v b n.first n.is_first) in
     let rest : m.rest ≡ n.rest = fit_keys vs a b m.rest n.rest h m.is_rest n.is_rest in
     m.both ∙ (ap (λ (x : Term). x ∷ m.rest) one ∙ (ap (λ (l : List Term). n.first ∷ l) rest ∙ sym n.both))

@@ -5,3 +5,4 @@ pub mod Meetings
 pub mod Places
 pub mod Listing
 pub mod Written
+pub mod Feeding

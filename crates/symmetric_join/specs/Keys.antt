@@ -5,7 +5,7 @@ use Rattle.std.specs.Cmp.Lexicographic.{pointwise}
 use Rattle.indexmap.specs.IndexMap.{IndexMap, get}
 use Rattle.rdf_terms.specs.declared.term.Term.{Term}
 use Rattle.rdf_terms.specs.Same.{same_term}
-use Rattle.rows_core.specs.Rows.{Cells, cell_or_free}
+use Rattle.rows_core.specs.Rows.{Cells, cell_or_unbound}
 
 -- a row's terms at the key variables; None where it leaves one unbound
 abbrev pub Key : Type 0
@@ -26,11 +26,11 @@ before_terms (Some x) (Some terms) = Some (x ∷ terms)
 -- the terms that the row binds to the variables, in their order
 abbrev pub key_of : List ℕ → Cells → Key
 key_of [] row = Some []
-key_of (v ∷ vs) row = before_terms (cell_or_free (slice_get row v)) (key_of vs row)
+key_of (v ∷ vs) row = before_terms (cell_or_unbound (slice_get row v)) (key_of vs row)
 
 -- the row binds the variable
 abbrev pub is_bound : Cells → ℕ → Bool
-is_bound row v = is_some (cell_or_free (slice_get row v))
+is_bound row v = is_some (cell_or_unbound (slice_get row v))
 
 -- the row has the key
 abbrev pub has_key : List ℕ → Key → Cells → Bool

@@ -2,7 +2,7 @@
 //!
 //! Promise: a node is seen as two lists of rows. Each feed appends its row to one of them and gives
 //! its merge with each compatible row of the other, in that side's order: as a bag, what the join of
-//! the two lists gains by it. The words are in `specs/Joins.antt` and `specs/Sides.antt`.
+//! the two lists gains by it, so that all feeds together give that join. The words are in `specs/Joins.antt` and `specs/Sides.antt`.
 //! Not here: which rows are fed, and when (live plans).
 //!
 //! Want of memory is `Memory` everywhere; after it the node is as before.
@@ -10,8 +10,10 @@
 
 mod fed;
 mod keyed;
+mod laws;
 mod meeting;
 mod node;
 mod table;
 
+pub use crate::laws::feeds_add_up;
 pub use crate::node::Node;

@@ -1,5 +1,5 @@
 ghost use Rattle.std.specs.Prelude.{◌≡◌, ◌++◌, ◌∷◌, ◌+◌, [], Some, None, IfSome, IfNone, IfOk, OnOk, OnErr, if◌then◌else◌, slice_get, length};
-ghost use Rattle.rows_core.specs.Rows.{cell_or_free};
+ghost use Rattle.rows_core.specs.Rows.{cell_or_unbound};
 ghost use Rattle.symmetric_join.specs.Keys as spec;
 ghost use Rattle.symmetric_join.specs.Keys.{Key, with_term, same_key, places_at, merged_places};
 
@@ -14,7 +14,7 @@ pub(crate) type Table = IndexMap<Option<Seq<Term>>, Seq<usize>>;
 
 // Appends the variable's term, and tells whether it has one.
 fn push_term(cells: &[Option<Term>], var: usize, terms: &mut Seq<Term>) -> Result<bool, Memory>
-    ensures { IfOk result (λ b. with_term terms.old (cell_or_free (slice_get cells.now var)) ≡ (if b then Some terms.new else None)) }
+    ensures { IfOk result (λ b. with_term terms.old (cell_or_unbound (slice_get cells.now var)) ≡ (if b then Some terms.new else None)) }
 {
     if var >= cells.len() {
         return Ok(false);

@@ -11,27 +11,27 @@ use Rattle.link_uri.specs.declared.heard.Reply.{Reply}
 use Rattle.link_uri.specs.declared.heard.Heard.{Heard}
 use Rattle.link_uri.specs.declared.heard.Heard.TheVariants.{Reply as Replied, Malformed, TooLong, Never}
 use Rattle.link_uri.specs.Heard.{is_uncoded, is_turtle, is_ntriples}
-use Rattle.doc_reader.specs.Reading.{ntriples_reading}
-use Rattle.turtle_scan.specs.declared.fault.Fault.{Fault}
-use Rattle.turtle_scan.specs.declared.fault.Fault.TheVariants.{Syntax, Deep}
+use Rattle.ntriples_reader.specs.Reading.{ntriples_reading}
+use Rattle.turtle_reader.specs.declared.token_fault.Fault.{Fault}
+use Rattle.turtle_reader.specs.declared.token_fault.Fault.TheVariants.{Syntax, Deep}
 use Rattle.turtle_reader.specs.Reading.{turtle_reading}
 use Rattle.doc_reader.specs.Outcome.{is_redirect, location_link, moved_or_refused, ntriples_outcome, turtle_outcome, text_outcome, body_outcome, reply_outcome, heard_outcome, scheme_outcome, outcome}
-use Rattle.reach_terms.specs.declared.outcome.Outcome.{Outcome}
-use Rattle.reach_terms.specs.declared.outcome.Outcome.TheVariants.{Document, Moved, Refused}
-use Rattle.reach_terms.specs.declared.outcome.Why.TheVariants as why
-use Rattle.reach_terms.specs.declared.record.Cause.{Cause}
-use Rattle.reach_terms.specs.declared.record.Entry.{Entry}
-use Rattle.reach_terms.specs.declared.record.Found.{Found}
-use Rattle.reach_terms.specs.declared.record.Found.TheVariants.{Outcome as Told, Unreachable}
-use Rattle.reach_terms.specs.Web.{Fetch}
-use Rattle.reach_terms.specs.Reach.{Text}
+use Rattle.reachability.specs.declared.outcome.Outcome.{Outcome}
+use Rattle.reachability.specs.declared.outcome.Outcome.TheVariants.{Document, Moved, Refused}
+use Rattle.reachability.specs.declared.outcome.Why.TheVariants as why
+use Rattle.reachability.specs.declared.record.Cause.{Cause}
+use Rattle.reachability.specs.declared.record.Entry.{Entry}
+use Rattle.reachability.specs.declared.record.Found.{Found}
+use Rattle.reachability.specs.declared.record.Found.TheVariants.{Outcome as Told, Unreachable}
+use Rattle.reachability.specs.Web.{Fetch}
+use Rattle.reachability.specs.Reach.{Text}
 use Rattle.web_port.specs.declared.flight.Flight.{Flight}
 use Rattle.web_port.specs.declared.fetcher.Got.{Got}
 use Rattle.web_port.specs.declared.fetcher.Got.TheVariants.{Heard as Answered, Unreachable as Lost}
 use Rattle.web_port.specs.Counts.{lost_in}
 use Rattle.web_port.specs.Flights.{fresh, failed_tries, without}
 use Rattle.web_port.specs.Port.{Port, lost_by, Gives, Lands, Waits, Starts, Stays, PortKept}
-use Rattle.web_port.proofs.PortLemmas.{go_length, kept_gone, length_without, failed_without, failed_push}
+use Rattle.web_port.proofs.PortLemmas.{go_length, kept_gone, length_without, failed_without, length_starts, failed_starts}
 use Rattle.traverse_core.specs.Alone.{found_of}
 use Rattle.traverse_core.specs.Totals.{Kind, weight_of, tally, tallies, count, held, Paid, Covered, Totals, StartsExactly}
 use Rattle.traverse_core.specs.Totals.Kind.{Started, Failed, LostBy}
@@ -83,39 +83,30 @@ held_none Started xs e = ap length e
 held_none Failed xs e = ap failed_tries e
 held_none (LostBy c) xs e = refl
 
-pub covered_totals : (lanes : ℕ) (p q : Port) (es fs more : List Entry) → p.flights ≡ [] → fs ≡ es ++ more → Covered lanes p (tallies es) q (tallies fs) → Totals lanes p q more
-covered_totals lanes p q es fs more e is c =
+pub covered_totals : (lanes : ℕ) (p q : Port) (u v : Kind → ℕ) → p.flights ≡ [] → Covered lanes p u q v → Totals lanes p u q v
+covered_totals lanes p q u v e c =
     let n = ap length e in
-    let all : (k : Kind) → tally k fs ≡ tally k es + tally k more = λ k. ap (tally k) is ∙ tally-append k es more in
     let most = c.most in
-    record {
-      started = let a = c.least Started in let b = all Started in omega arith;
-      at_most = let b = all Started in omega arith;
-      failed = let a = c.least Failed in let b = all Failed in let h = held_none Failed p.flights e in omega arith;
-      lost = λ d. let a = c.least (LostBy d) in let b = all (LostBy d) in omega arith;
-    }
+    record { least = λ k. let a = c.least k in let h = held_none k p.flights e in omega arith; most = omega arith }
 
-pub paid_totals : (lanes : ℕ) (p q : Port) (es fs more : List Entry) → p.flights ≡ [] → q.flights ≡ [] → fs ≡ es ++ more → Paid p (tallies es) q (tallies fs) → Totals lanes p q more
-paid_totals lanes p q es fs more e f is a =
-    covered_totals lanes p q es fs more e is (paid_covered lanes p q (tallies es) (tallies fs) (let n = ap length f in omega arith) a)
+pub paid_totals : (lanes : ℕ) (p q : Port) (u v : Kind → ℕ) → p.flights ≡ [] → q.flights ≡ [] → Paid p u q v → Totals lanes p u q v
+paid_totals lanes p q u v e f a =
+    covered_totals lanes p q u v e (paid_covered lanes p q u v (let n = ap length f in omega arith) a)
 
-pub paid_exactly : (p q : Port) (es fs more : List Entry) → p.flights ≡ [] → q.flights ≡ [] → fs ≡ es ++ more → Paid p (tallies es) q (tallies fs) → StartsExactly p q more
-paid_exactly p q es fs more e f is a =
+pub paid_exactly : (p q : Port) (u v : Kind → ℕ) → p.flights ≡ [] → q.flights ≡ [] → Paid p u q v → StartsExactly p u q v
+paid_exactly p q u v e f a =
     let x = a.most in
     let y = a.least Started in
     let m = ap length e in
     let n = ap length f in
-    let b : tally Started fs ≡ tally Started es + tally Started more = ap (tally Started) is ∙ tally-append Started es more in
     omega arith
 
 -- ---- the steps of a fetcher
 
 pub paid_starts : (p q : Port) (u : Kind → ℕ) (n : ℕ) (text : Text) → Starts p n text q → Paid p u q u
 paid_starts p q u n text s =
-    let x = ap length s.flights in
-    let m = length-append p.flights (fresh n text ∷ []) in
-    let f = ap failed_tries s.flights in
-    let g = failed_push p.flights n text in
+    let x = length_starts p q n text s in
+    let f = failed_starts p q n text s in
     let a = s.starts in
     let b = s.faults in
     record {

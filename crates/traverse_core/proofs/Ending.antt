@@ -15,27 +15,29 @@ use Rattle.link_queue.proofs.Growth.{flying_marks}
 use Rattle.json_results.specs.Results.{result_text}
 use Rattle.rows_core.specs.Rows.{Cells, projected}
 use Rattle.algebra_core.specs.Graphs as graphs
-use Rattle.reach_terms.specs.declared.record.Found.{Found}
-use Rattle.reach_terms.specs.declared.record.Found.TheVariants.{Outcome as Told, Unreachable}
-use Rattle.reach_terms.specs.declared.record.Entry.{Entry}
-use Rattle.reach_terms.specs.declared.record.Record.{Record}
-use Rattle.reach_terms.specs.declared.web.Web.{Web}
-use Rattle.reach_terms.specs.Reach.{Text, Rule}
-use Rattle.reach_terms.specs.Record.{entry_links, AgreesWith, IsFaithful, IsTraversed, HasEnded, LooksUpReachable, merged_graph}
-use Rattle.reach_terms.proofs.Reachable.{looks_up_reachable}
+use Rattle.reachability.specs.declared.record.Found.{Found}
+use Rattle.reachability.specs.declared.record.Found.TheVariants.{Outcome as Told, Unreachable}
+use Rattle.reachability.specs.declared.record.Entry.{Entry}
+use Rattle.reachability.specs.declared.record.Record.{Record}
+use Rattle.reachability.specs.Web.{ToldWeb}
+use Rattle.reachability.specs.Reach.{Text, Rule}
+use Rattle.reachability.specs.Record.{entry_links, AgreesWith, IsFaithful, IsTraversed, HasEnded, LooksUpReachable, merged_graph}
+use Rattle.reachability.proofs.Reachable.{looks_up_reachable}
 use Rattle.doc_reader.specs.Outcome.{outcome_of}
 use Rattle.algebra_core.specs.declared.query.Query.{Query}
 use Rattle.algebra_core.specs.Meaning.{eval}
 use Rattle.algebra_core.specs.Order.{row_cmp}
 use Rattle.algebra_core.specs.Query.{Answers, answers_by, distinct_if, ordered_if}
 use Rattle.traverse_core.specs.Query.{selected_names}
-use Rattle.row_writer.specs.Output.{IsClear, closed_by}
-use Rattle.row_writer.proofs.Due.{whole_due}
+use Rattle.result_writer.specs.Output.{IsClear, closed_by}
+use Rattle.result_writer.proofs.Due.{whole_due}
 use Rattle.traverse_core.specs.Run.{Run, rule_of, seeds_of, AgreesAt}
 use Rattle.traverse_core.specs.State.{State}
 use Rattle.traverse_core.specs.Kept.{LinksKept, IsKept}
 use Rattle.traverse_core.specs.Steps.{Closes}
 use Rattle.traverse_core.proofs.Logging.{graph_apart}
+use Rattle.traverse_core.proofs.Ordering.{ordered_rows}
+use Rattle.traverse_core.specs.Order.{IsOrdered}
 
 pub two_states : (xs : List (Text × LinkState)) (u : Text) (r s : LinkState) → Apart (links xs) → IsIn xs (u, r) → IsIn xs ((u, s)) → r ≡ s
 two_states [] u r s a h k = absurd h
@@ -118,24 +120,35 @@ trace_of s = record { entries = s.entries; queued = queued_links (marks s.table)
 pub traversed : (run : Run) (s : State) → flying s.table ≡ 0 → IsKept run s → IsTraversed (trace_of s) (seeds_of run) (rule_of run) run.limit
 traversed run s f k = traversed_rows run (marks s.table) s.entries (flying_marks s.table ∙ f) k.reach
 
--- what was found at a link agrees with the web at its text
-at_text : (web : Web) (body : ℕ) (u : Link) (x : Text) (found : Found) → IsLink u → u.text ≡ x → AgreesAt web body u found → AgreesWith (outcome_of web body) x found
-at_text web body u x (Told outcome) own e h = record { link = u; of = ap link_of (sym e) ∙ own.own; out_is = h }
-at_text web body u x (Unreachable cause tries) own e h = tt
+pub ordered : (run : Run) (s : State) → flying s.table ≡ 0 → IsKept run s → IsOrdered (trace_of s) run.seeds (rule_of run)
+ordered run s f k =
+    ordered_rows run s.table s.entries
+    (λ row h. record {
+      named = λ e. k.reach.settled row.0 (subst (λ (x : LinkState). IsIn (marks s.table) (row.0, x)) e h);
+      waits = λ e n.
+          let z = two_states (marks s.table) row.0 Settled Queued k.reach.apart (k.reach.named row.0 n) (subst (λ (x : LinkState). IsIn (marks s.table) (row.0, x)) e h) in
+          absurd (cc);
+    })
+    f k.order
 
-told_web : (web : Option Web) (body : ℕ) (r : Record) → ((w : Web) → web ≡ Some w → IsFaithful (outcome_of w body) r) → IfSome web (λ w. IsFaithful (outcome_of w body) r)
+-- what was found at a link agrees with the web at its text
+at_text : (web : ToldWeb) (body : ℕ) (u : Link) (x : Text) (found : Found) → IsLink u → u.text ≡ x → AgreesAt web body u found → AgreesWith (outcome_of web body) x found
+at_text web body u x (Told outcome) valid_links e h = record { link = u; of = ap link_of (sym e) ∙ valid_links.valid_link; out_is = h }
+at_text web body u x (Unreachable cause tries) valid_links e h = tt
+
+told_web : (web : Option ToldWeb) (body : ℕ) (r : Record) → ((w : ToldWeb) → web ≡ Some w → IsFaithful (outcome_of w body) r) → IfSome web (λ w. IsFaithful (outcome_of w body) r)
 told_web None body r h = tt
 told_web (Some w) body r h = h w refl
 
-agrees_told : (web : Option Web) (body : ℕ) (w : Web) (u : Link) (found : Found) → web ≡ Some w → IfSome web (λ x. AgreesAt x body u found) → AgreesAt w body u found
-agrees_told web body w u found e h = subst (λ (o : Option Web). IfSome o (λ x. AgreesAt x body u found)) e h
+agrees_told : (web : Option ToldWeb) (body : ℕ) (w : ToldWeb) (u : Link) (found : Found) → web ≡ Some w → IfSome web (λ x. AgreesAt x body u found) → AgreesAt w body u found
+agrees_told web body w u found e h = subst (λ (o : Option ToldWeb). IfSome o (λ x. AgreesAt x body u found)) e h
 
 pub faithful : (run : Run) (s : State) → IsKept run s → IfSome run.fetch.web (λ w. IsFaithful (outcome_of w run.body) (trace_of s))
 faithful run s k =
     told_web run.fetch.web run.body (trace_of s)
-    (λ w e x h. let a = k.entries x h in at_text w run.body a.link x.link x.found a.own a.text (agrees_told run.fetch.web run.body w a.link x.found e a.may.agrees))
+    (λ w e x h. let a = k.entries x h in at_text w run.body a.link x.link x.found a.valid_links a.text (agrees_told run.fetch.web run.body w a.link x.found e a.may.agrees))
 
-reach_told : (web : Option Web) (body : ℕ) (r : Record) (seeds : List Text) (rule : Rule) (limit : ℕ) → IsTraversed r seeds rule limit → r.queued ≡ [] → IfSome web (λ w. IsFaithful (outcome_of w body) r) → IfSome web (λ w. LooksUpReachable (outcome_of w body) r seeds rule)
+reach_told : (web : Option ToldWeb) (body : ℕ) (r : Record) (seeds : List Text) (rule : Rule) (limit : ℕ) → IsTraversed r seeds rule limit → r.queued ≡ [] → IfSome web (λ w. IsFaithful (outcome_of w body) r) → IfSome web (λ w. LooksUpReachable (outcome_of w body) r seeds rule)
 reach_told None body r seeds rule limit t none f = tt
 reach_told (Some w) body r seeds rule limit t none f = looks_up_reachable (outcome_of w body) r seeds rule limit t none f
 
@@ -177,10 +190,8 @@ written run s closed clear k before told = (
   subst (λ (names : List (List ℕ)). s.out.content ≡ Some (before ++ result_text names s.out.rows)) k.output.names (whole_due before s.out closed clear (k.output.due before told)),
 )
 
--- answers under a run's query over a state's log close it
-pub closes_with : (run : Run) (s t : State) (query : Query) (log : List Triple) (rows : List Cells) → query ≡ run.query → log ≡ s.log → Answers query log rows → t ≡ record s { out = closed_by s.out rows } → Closes run s t
-closes_with run s t query log rows same logged answers is = record {
-  rows = rows;
-  answers = subst (λ (q : Query). Answers q s.log rows) same (subst (λ (l : List Triple). Answers query l rows) logged answers);
-  is = is;
-}
+-- answers under a run's query over a state's log close it, where no row came before
+pub closes_with : (run : Run) (s t : State) (query : Query) (log : List Triple) (rows : List Cells) → s.out.rows ≡ [] → query ≡ run.query → log ≡ s.log → Answers query log rows → t ≡ record s { out = closed_by s.out rows } → Closes run s t
+closes_with run s t query log rows none same logged answers is =
+    let a : Answers run.query s.log rows = subst (λ (q : Query). Answers q s.log rows) same (subst (λ (l : List Triple). Answers query l rows) logged answers) in
+    record { more = rows; answers = subst (λ (early : List Cells). Answers run.query s.log (early ++ rows)) (sym none) a; is = is }

@@ -1,5 +1,5 @@
 -- Each step but settling keeps what every state keeps.
-use Rattle.std.proofs.Common.{ℕ, zero, suc, ◌≡◌, ◌≢◌, ◌⊎◌, ◌+◌, ◌-◌, ◌<◌, ◌≤◌, List, [], ◌∷◌, Option, Some, None, Bool, true, false, refl, sym, ◌∙◌, ap, subst, inl, inr, arith, length, drop, add-one}
+use Rattle.std.proofs.Common.{ℕ, zero, suc, ◌≡◌, ◌≢◌, ◌⊎◌, ◌+◌, ◌-◌, ◌<◌, ◌≤◌, List, [], ◌∷◌, ◌++◌, Option, Some, None, Bool, true, false, refl, sym, ◌∙◌, ap, subst, inl, inr, arith, length, drop, add-one}
 use Rattle.std.specs.Prelude.{◌&&◌, ◌^◌, not, if◌then◌else◌, is_none, min, nat_lt, IsTrue}
 use Rattle.std.proofs.lemmas.Bool.Decides.{nat_tests}
 use Rattle.std.proofs.Math.Seq.{drop-nil}
@@ -15,23 +15,24 @@ use Rattle.link_queue.proofs.Growth.{grown, own_queue_all, marks_with_state, sta
 use Rattle.outer_ports.specs.Causes.{Rose}
 use Rattle.rows_core.specs.declared.pattern.TriplePattern.{TriplePattern}
 use Rattle.reach_criteria.specs.declared.criterion.Criterion.{Criterion}
-use Rattle.reach_terms.specs.declared.record.Entry.{Entry}
-use Rattle.reach_terms.specs.Reach.{Text}
+use Rattle.reachability.specs.declared.record.Entry.{Entry}
+use Rattle.reachability.specs.Reach.{Text}
 use Rattle.algebra_core.specs.declared.query.Query.{Query}
 use Rattle.algebra_core.specs.Query.{Answers}
 use Rattle.traverse_core.specs.Query.{patterns_of, selected_names}
 use Rattle.json_results.specs.Results.{head_text}
-use Rattle.row_writer.specs.declared.written.Written.{Written}
-use Rattle.row_writer.specs.declared.written.Written.TheVariants.{Wrote, Clear, Failed}
+use Rattle.result_writer.specs.declared.written.Written.{Written}
+use Rattle.result_writer.specs.declared.written.Written.TheVariants.{Wrote, Clear, Failed}
 use Rattle.rows_core.specs.Rows.{Cells}
-use Rattle.row_writer.specs.Output.{Output, IsDue, Writes, closed_by}
-use Rattle.row_writer.proofs.Due.{SameRows, wrote_due, wrote_same, wrote_faults, kept_due, kept_same, closed_due, new_due}
+use Rattle.result_writer.specs.Output.{Output, IsDue, Writes, closed_by}
+use Rattle.result_writer.proofs.Due.{SameRows, wrote_due, wrote_same, wrote_faults, kept_due, kept_same, closed_due, new_due}
 use Rattle.traverse_core.specs.declared.steps.Halt.{Halt}
 use Rattle.traverse_core.specs.declared.steps.Halt.TheVariants as halt
-use Rattle.traverse_core.specs.Run.{Run}
+use Rattle.traverse_core.specs.Run.{Run, TellsIfSure}
 use Rattle.traverse_core.specs.State.{State, is_running, next_of, MayClose}
 use Rattle.traverse_core.specs.Kept.{LinksKept, OutputKept, StopKept, IsKept, IsTied}
-use Rattle.traverse_core.specs.Steps.{opened, restated, WritesOut, Closes, halted_by_memory}
+use Rattle.traverse_core.proofs.Ordering.{order_opened, order_restated}
+use Rattle.traverse_core.specs.Steps.{opened, Opens, restated, WritesOut, Closes, halted_by_memory}
 
 -- a count that has risen
 rose_more : (a b c m : ℕ) → min (a + 1) m ≤ b → b ≤ c → min (a + 1) m ≤ c
@@ -86,8 +87,10 @@ restated_kept run t n r s nr ns open' at room k =
     let m = marks_with_state t.table n r in
     let f : flying (with_state (marks t.table) n r) ≡ flying (with_state t.table n r) = ap (λ (x : List (Text × LinkState)). flying x) (sym m) ∙ flying_marks (with_state t.table n r) in
     record {
+      told = k.told;
       reach = subst (λ (rows : List (Text × LinkState)). LinksKept run rows t.entries) (sym m) (links_restated run (marks t.table) t.entries n r s nr ns (state_marks t.table n ∙ at) (omega arith) k.reach);
-      own = subst AreLinks (sym (links_with_state t.table n r)) k.own;
+      order = order_restated run t.table t.entries n r k.order;
+      valid_links = subst AreLinks (sym (links_with_state t.table n r)) k.valid_links;
       log = k.log;
       entries = k.entries;
       output = k.output;
@@ -141,11 +144,12 @@ room run q c ps limit f s k =
 nothing_left : (t : Triple) → IsIn (drop 0 []) t → ⊥
 nothing_left t h = h
 
-pub opened_kept : (run : Run) → AreLinks run.seeds → IsKept run (opened run)
-opened_kept run own =
+pub opened_kept : (run : Run) → TellsIfSure run.fetch → AreLinks run.seeds → IsKept run (opened run [])
+opened_kept run told valid_links =
     let g = grown [] run.seeds in
     let f = g.flies in
     record {
+      told = told;
       reach = record {
         apart = g.apart tt;
         once = tt;
@@ -156,24 +160,35 @@ opened_kept run own =
         onward = λ u v e. absurd e.known;
         limited = omega arith;
       };
-      own = own_queue_all [] run.seeds (λ u h. absurd h) own;
+      order = order_opened run;
+      valid_links = own_queue_all [] run.seeds (λ u h. absurd h) valid_links;
       log = record { once = tt; merged = refl; within = omega arith; last = λ t h. absurd (nothing_left t h) };
       entries = λ e h. absurd h;
       output = record { names = refl; early = λ h. refl; answers = λ h. absurd (cc); due = λ before h. new_due before (selected_names run.query) run.content run.faults h };
       stop = record { landed = λ h. absurd (cc); dry = λ h. absurd (cc); ended = λ h. absurd (cc); risen = omega arith; failed = λ h. absurd (cc) };
     }
 
-pub opened_tied : (run : Run) → AreLinks run.seeds → IsTied run run.query run.criterion (patterns_of run.query) run.limit 0 (opened run)
-opened_tied run own =
+pub opened_tied : (run : Run) → TellsIfSure run.fetch → AreLinks run.seeds → IsTied run run.query run.criterion (patterns_of run.query) run.limit 0 (opened run [])
+opened_tied run told valid_links =
     let f = (grown [] run.seeds).flies in
     let m = flying_marks (queue_all [] run.seeds) in
-    record { same_query = refl; same_criterion = refl; same_patterns = refl; same_limit = refl; counted = omega arith; kept = opened_kept run own }
+    record { same_query = refl; same_criterion = refl; same_patterns = refl; same_limit = refl; counted = omega arith; kept = opened_kept run told valid_links }
 
-pub opened_with : (run : Run) (q : Query) (c : Criterion) (ps : List TriplePattern) (limit : ℕ) (t : List (Link × LinkState)) (es : List Entry) (log : List Triple) (out : Output) → q ≡ run.query → c ≡ run.criterion → ps ≡ patterns_of run.query → limit ≡ run.limit → AreLinks run.seeds → t ≡ queue_all [] run.seeds → es ≡ [] → log ≡ [] → out ≡ (opened run).out → IsTied run q c ps limit 0 (record { table = t; entries = es; log = log; drawn = 0; out = out; halted = None })
-opened_with run q c ps limit t es log out a b d e own f g h i = rw (a, b, d, e, f, g, h, i) (opened_tied run own)
+pub opened_with : (run : Run) (q : Query) (c : Criterion) (ps : List TriplePattern) (limit : ℕ) (t : List (Link × LinkState)) (es : List Entry) (log : List Triple) (out : Output) → q ≡ run.query → c ≡ run.criterion → ps ≡ patterns_of run.query → limit ≡ run.limit → TellsIfSure run.fetch → AreLinks run.seeds → t ≡ queue_all [] run.seeds → es ≡ [] → log ≡ [] → out ≡ (opened run []).out → IsTied run q c ps limit 0 (record { table = t; entries = es; log = log; drawn = 0; out = out; halted = None })
+opened_with run q c ps limit t es log out a b d e told valid_links f g h i = rw (a, b, d, e, f, g, h, i) (opened_tied run told valid_links)
+
+pub opens_with : (run : Run) (t : List (Link × LinkState)) (es : List Entry) (log : List Triple) (out : Output) → t ≡ queue_all [] run.seeds → es ≡ [] → log ≡ [] → out ≡ (opened run []).out → Opens run (record { table = t; entries = es; log = log; drawn = 0; out = out; halted = None })
+opens_with run t es log out f g h i = rw (f, g, h, i) (record { rows = []; is = refl })
+
+-- nothing is in flight
+pub opened_flies : (run : Run) → flying (queue_all [] run.seeds) ≡ 0
+opened_flies run =
+    let none = (grown [] run.seeds).flies in
+    let same = flying_marks (queue_all [] run.seeds) in
+    omega arith
 
 -- the output of an opened traversal
-pub opened_out : (run : Run) (names : List (List ℕ)) (head : List ℕ) (content : Option (List ℕ)) (faults : ℕ) → names ≡ selected_names run.query → head ≡ head_text (selected_names run.query) → content ≡ run.content → faults ≡ run.faults → record { names = names; rows = []; handed = 0; pending = head; closed = false; content = content; faults = faults } ≡ (opened run).out
+pub opened_out : (run : Run) (names : List (List ℕ)) (head : List ℕ) (content : Option (List ℕ)) (faults : ℕ) → names ≡ selected_names run.query → head ≡ head_text (selected_names run.query) → content ≡ run.content → faults ≡ run.faults → record { names = names; rows = []; handed = 0; pending = head; closed = false; content = content; faults = faults } ≡ (opened run []).out
 opened_out run names head content faults a b c d = rw (a, b, c, d) refl
 
 -- ---- drawing
@@ -188,8 +203,10 @@ drop_later xs n t h = later xs n t (subst (λ (k : ℕ). IsIn (drop k xs) t) (ad
 
 pub drawn_kept : (run : Run) (s : State) → s.out.closed ≡ false → s.drawn < length s.log → IsKept run s → IsKept run (record s { drawn = s.drawn + 1 })
 drawn_kept run s open' less k = record {
+  told = k.told;
   reach = k.reach;
-  own = k.own;
+  order = k.order;
+  valid_links = k.valid_links;
   log = record { once = k.log.once; merged = k.log.merged; within = omega arith; last = λ t h. k.log.last t (drop_later s.log s.drawn t h) };
   entries = k.entries;
   output = k.output;
@@ -222,8 +239,10 @@ stop_same run s p h same later failed k = record {
 -- an output that writes on, halted or not
 out_kept : (run : Run) (s : State) (p : Output) (h : Option Halt) → SameRows s.out p → ((before : List ℕ) → run.content ≡ Some before → IsDue before p) → s.out.faults ≤ p.faults → (h ≡ Some halt.Output → Rose run.faults p.faults) → IsKept run s → IsKept run (record s { out = p; halted = h })
 out_kept run s p h same due later failed k = record {
+  told = k.told;
   reach = k.reach;
-  own = k.own;
+  order = k.order;
+  valid_links = k.valid_links;
   log = k.log;
   entries = k.entries;
   output = output_same run s.log s.out p same due k.output;
@@ -259,8 +278,10 @@ was_output (Some x) e = e
 
 pub halted_kept : (run : Run) (s : State) → IsKept run s → IsKept run (halted_by_memory s)
 halted_kept run s k = record {
+  told = k.told;
   reach = k.reach;
-  own = k.own;
+  order = k.order;
+  valid_links = k.valid_links;
   log = k.log;
   entries = k.entries;
   output = k.output;
@@ -283,11 +304,13 @@ pub closed_kept : (run : Run) (s t : State) → is_running s ≡ true → s.out.
 closed_kept run s t runs open' may c k =
     let limit : flying s.table + length s.entries ≤ run.limit = let l = k.reach.limited in let m = flying_marks s.table in omega arith in
     subst (IsKept run) (sym c.is) (record {
+      told = k.told;
       reach = k.reach;
-      own = k.own;
+      order = k.order;
+      valid_links = k.valid_links;
       log = k.log;
       entries = k.entries;
-      output = record { names = k.output.names; early = λ h. absurd (cc); answers = λ h. c.answers; due = λ before e. closed_due before s.out c.rows open' (k.output.early open') may.clear (k.output.due before e) };
+      output = record { names = k.output.names; early = λ h. absurd (cc); answers = λ h. c.answers; due = λ before e. closed_due before s.out c.more open' may.clear (k.output.due before e) };
       stop = record { landed = λ h. may.landed; dry = λ h. may.dry; ended = λ h. next_cases run s runs may.landed limit may.last; risen = k.stop.risen; failed = k.stop.failed };
     })
 
@@ -337,5 +360,6 @@ wrote_ill run q c ps limit f s p w k e h =
 pub closed_well : (run : Run) (q : Query) (c : Criterion) (ps : List TriplePattern) (limit f : ℕ) (s : State) (p : Output) (log : List Triple) (rows : List Cells) → IsTied run q c ps limit f s → is_running s ≡ true → s.out.closed ≡ false → MayClose run s → log ≡ s.log → Answers q log rows → p ≡ closed_by s.out rows → IsTied run q c ps limit f (record s { out = p })
 closed_well run q c ps limit f s p log rows k r o m l a e =
     let over : Answers q s.log rows = subst (λ (g : List Triple). Answers q g rows) l a in
+    let all : Answers run.query s.log rows = subst (λ (x : Query). Answers x s.log rows) k.same_query over in
     closed_tied run q c ps limit f s (record s { out = p }) k r o m
-    (record { rows = rows; answers = subst (λ (x : Query). Answers x s.log rows) k.same_query over; is = ap (λ (x : Output). record s { out = x }) e })
+    (record { more = rows; answers = subst (λ (early : List Cells). Answers run.query s.log (early ++ rows)) (sym (k.kept.output.early o)) all; is = ap (λ (x : Output). record s { out = x }) e })

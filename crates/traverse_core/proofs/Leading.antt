@@ -3,11 +3,11 @@ use Rattle.std.proofs.Common.{◌≡◌, refl, sym, subst, inl, inr}
 use Rattle.rdf_terms.specs.Lists.{IsIn}
 use Rattle.link_uri.specs.Links.{texts}
 use Rattle.reach_criteria.proofs.Targets.{targets_exact}
-use Rattle.reach_terms.specs.declared.outcome.Outcome.{Outcome}
-use Rattle.reach_terms.specs.declared.outcome.Outcome.TheVariants.{Document, Moved, Refused}
-use Rattle.reach_terms.specs.declared.record.Found.{Found}
-use Rattle.reach_terms.specs.declared.record.Found.TheVariants.{Outcome as Told, Unreachable}
-use Rattle.reach_terms.specs.Reach.{Text, Rule, LeadsTo}
+use Rattle.reachability.specs.declared.outcome.Outcome.{Outcome}
+use Rattle.reachability.specs.declared.outcome.Outcome.TheVariants.{Document, Moved, Refused}
+use Rattle.reachability.specs.declared.record.Found.{Found}
+use Rattle.reachability.specs.declared.record.Found.TheVariants.{Outcome as Told, Unreachable}
+use Rattle.reachability.specs.Reach.{Text, Rule, LeadsTo}
 use Rattle.traverse_core.specs.Run.{targets}
 
 -- a target is a link that the outcome leads to

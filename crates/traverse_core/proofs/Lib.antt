@@ -1,6 +1,7 @@
 pub mod Wide
 pub mod Leading
 pub mod Logging
+pub mod Ordering
 pub mod Kept
 pub mod Settling
 pub mod Ending

@@ -8,10 +8,10 @@ use Rattle.rdf_terms.proofs.Adding.{any_in, once_cases, triple_tells}
 use Rattle.rdf_terms.proofs.Members.{in_right}
 use Rattle.growing_graph.proofs.Logging.{logged}
 use Rattle.algebra_core.specs.Graphs.{graph}
-use Rattle.reach_terms.specs.declared.record.Found.{Found}
-use Rattle.reach_terms.specs.declared.record.Entry.{Entry}
-use Rattle.reach_terms.specs.Reach.{Text}
-use Rattle.reach_terms.specs.Record.{found_triples, merged_graph}
+use Rattle.reachability.specs.declared.record.Found.{Found}
+use Rattle.reachability.specs.declared.record.Entry.{Entry}
+use Rattle.reachability.specs.Reach.{Text}
+use Rattle.reachability.specs.Record.{found_triples, merged_graph}
 use Rattle.traverse_core.specs.Kept.{LogKept, last_triples}
 
 pub merged_push : (es : List Entry) (e : Entry) → merged_graph (es ++ e ∷ []) ≡ merged_graph es ++ found_triples e.found

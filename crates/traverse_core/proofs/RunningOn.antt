@@ -6,16 +6,16 @@ use Rattle.std.proofs.lemmas.List.{length-drop, drop-drop}
 use Rattle.std.proofs.lemmas.Bool.Decides.{nat_tests}
 use Rattle.outer_ports.specs.Causes.{Rose}
 use Rattle.rows_core.specs.Rows.{Cells}
-use Rattle.reach_terms.specs.declared.record.Entry.{Entry}
-use Rattle.row_writer.specs.declared.written.Written.{Written}
-use Rattle.row_writer.specs.declared.written.Written.TheVariants.{Wrote, Clear, Failed}
-use Rattle.row_writer.specs.Output.{Output, piece, waiting_text, text_made, with_text, WritesSome, KeepsText, closed_by}
-use Rattle.row_writer.proofs.Due.{SameRows, wrote_faults, wrote_same, kept_same}
+use Rattle.reachability.specs.declared.record.Entry.{Entry}
+use Rattle.result_writer.specs.declared.written.Written.{Written}
+use Rattle.result_writer.specs.declared.written.Written.TheVariants.{Wrote, Clear, Failed}
+use Rattle.result_writer.specs.Output.{Output, piece, waiting_text, text_made, with_text, WritesSome, KeepsText, closed_by}
+use Rattle.result_writer.proofs.Due.{SameRows, wrote_faults, wrote_same, kept_same}
 use Rattle.traverse_core.specs.declared.steps.Halt.{Halt}
 use Rattle.traverse_core.specs.declared.steps.Halt.TheVariants as halt
 use Rattle.traverse_core.specs.Run.{Run}
 use Rattle.traverse_core.specs.State.{State, is_running}
-use Rattle.traverse_core.specs.Steps.{WritesOut, Closes, halted_by_memory}
+use Rattle.traverse_core.specs.Steps.{DrawsOne, DrawsOn, with_rows, WritesOut, Closes, halted_by_memory}
 use Rattle.traverse_core.specs.Alone.{RunsOn, SameLinks, entries_since}
 
 -- ---- counts that rose
@@ -102,6 +102,37 @@ some_halt (Some x) e = absurd (cc)
 pub is_halted : (s t : State) → t ≡ halted_by_memory s → t.halted ≡ None → ⊥
 is_halted s t e h = some_halt s.halted (sym (ap (λ (x : State). x.halted) e) ∙ h)
 
+-- ---- drawing
+
+pub draws_none : (s : State) → DrawsOn s s
+draws_none s = record { later = omega arith; more = []; is = ap (λ (rows : List Cells). record s { out = record s.out { rows = rows } }) (sym (append-nil s.out.rows)) }
+
+pub draws_more : (s t u : State) → DrawsOn s t → DrawsOne t u → DrawsOn s u
+draws_more s t u a b =
+    let x = a.later in
+    let is : u ≡ record (with_rows s (a.more ++ b.more)) { drawn = t.drawn + 1 } =
+    b.is
+    ∙ (ap (λ (r : State). record (with_rows r b.more) { drawn = r.drawn + 1 }) a.is
+    ∙ ap (λ (rows : List Cells). record s { drawn = t.drawn + 1; out = record s.out { rows = rows } }) (append_assoc s.out.rows a.more b.more)) in
+    let d : u.drawn ≡ t.drawn + 1 = ap (λ (r : State). r.drawn) is in
+    record { later = omega arith; more = a.more ++ b.more; is = is ∙ ap (λ (n : ℕ). record (with_rows s (a.more ++ b.more)) { drawn = n }) (sym d) }
+
+-- a draw leaves less to draw
+pub draws_less : (s t : State) → DrawsOne s t → length t.log - t.drawn < length s.log - s.drawn
+draws_less s t d =
+    let less = d.less in
+    let log = ap (λ (r : State). length r.log) d.is in
+    let drawn = ap (λ (r : State). r.drawn) d.is in
+    omega arith
+
+-- no rows came
+pub draws_one : (s t : State) → s.drawn < length s.log → t ≡ record s { drawn = s.drawn + 1 } → DrawsOne s t
+draws_one s t less is = record {
+  less = less;
+  more = [];
+  is = is ∙ ap (λ (rows : List Cells). record s { drawn = s.drawn + 1; out = record s.out { rows = rows } }) (sym (append-nil s.out.rows));
+}
+
 -- ---- writing
 
 running_parts : (closed : Bool) (h : Option Halt) → (not closed && is_none h) ≡ true → (closed ≡ false) × (h ≡ None)
@@ -126,6 +157,18 @@ same_none s = record { table = refl; entries = refl; log = refl; closed = refl }
 
 pub same_on : (s t u : State) → SameLinks s t → SameLinks t u → SameLinks s u
 same_on s t u a b = record { table = b.table ∙ a.table; entries = b.entries ∙ a.entries; log = b.log ∙ a.log; closed = b.closed ∙ a.closed }
+
+pub drew_same : (s t : State) → DrawsOn s t → SameLinks s t
+drew_same s t d = record { table = ap (λ (x : State). x.table) d.is; entries = ap (λ (x : State). x.entries) d.is; log = ap (λ (x : State). x.log) d.is; closed = ap (λ (x : State). x.out.closed) d.is }
+
+drew_whole : (s t : State) → IsTrue (is_running s) → DrawsOn s t → t.halted ≡ None
+drew_whole s t r d = ap (λ (x : State). x.halted) d.is ∙ running_whole s r
+
+pub drew_on : (s t : State) → IsTrue (is_running s) → DrawsOn s t → RunsOn s t
+drew_on s t r d = on_calm s t (running_whole s r) (drew_whole s t r d) (drew_same s t d).entries (ap (λ (x : State). x.out.faults) d.is)
+
+pub drew_running : (s t : State) → IsTrue (is_running s) → DrawsOn s t → IsTrue (is_running t)
+drew_running s t r d = running_again s t r (drew_same s t d).closed (drew_whole s t r d)
 
 -- what a step of writing leaves
 pub record WroteOn (s t : State) : Type 0 where

@@ -15,21 +15,22 @@ use Rattle.link_queue.proofs.Places.{links_with_state, with_state_cases, with_st
 use Rattle.link_queue.proofs.Growth.{Grown, grown, own_queue_all, marks_with_state, state_marks, link_marks, flying_marks, state_grown}
 use Rattle.rows_core.specs.declared.pattern.TriplePattern.{TriplePattern}
 use Rattle.reach_criteria.specs.declared.criterion.Criterion.{Criterion}
-use Rattle.reach_terms.specs.declared.record.Found.{Found}
-use Rattle.reach_terms.specs.declared.record.Found.TheVariants.{Outcome as Told}
-use Rattle.reach_terms.specs.declared.record.Entry.{Entry}
-use Rattle.reach_terms.specs.Reach.{Text, Rule, IsReachable, GoesOn, NoLink}
-use Rattle.reach_terms.specs.Record.{OutcomesOf, entry_link, entry_links}
-use Rattle.reach_terms.proofs.Reachable.{path_map}
+use Rattle.reachability.specs.declared.record.Found.{Found}
+use Rattle.reachability.specs.declared.record.Found.TheVariants.{Outcome as Told}
+use Rattle.reachability.specs.declared.record.Entry.{Entry}
+use Rattle.reachability.specs.Reach.{Text, Rule, IsReachable, GoesOn, NoLink}
+use Rattle.reachability.specs.Record.{OutcomesOf, entry_link, entry_links}
+use Rattle.reachability.proofs.Reachable.{path_map}
 use Rattle.algebra_core.specs.declared.query.Query.{Query}
 use Rattle.traverse_core.specs.Query.{patterns_of}
-use Rattle.row_writer.specs.Output.{Output}
+use Rattle.result_writer.specs.Output.{Output}
 use Rattle.traverse_core.specs.Run.{Run, rule_of, seeds_of, MayFind, targets}
 use Rattle.traverse_core.specs.State.{State}
 use Rattle.traverse_core.specs.Kept.{LinksKept, EntryKept, OutputKept, IsKept, IsTied}
 use Rattle.traverse_core.specs.Steps.{settled}
 use Rattle.traverse_core.proofs.Leading.{target_leads, leads_target}
 use Rattle.traverse_core.proofs.Logging.{settled_log}
+use Rattle.traverse_core.proofs.Ordering.{order_settled}
 use Rattle.traverse_core.proofs.Kept.{stop_open, tied_to}
 
 pub links_push : (es : List Entry) (e : Entry) → entry_links (es ++ e ∷ []) ≡ entry_links es ++ e.link ∷ []
@@ -96,10 +97,10 @@ settled_links run rows new es n u found g at l k =
     }
 
 pub settled_entries : (run : Run) (es : List Entry) (u : Link) (found : Found) → IsLink u → MayFind run u found → ((e : Entry) → IsIn es e → EntryKept run e) → (e : Entry) → IsIn (es ++ record { link = u.text; found = found } ∷ []) e → EntryKept run e
-settled_entries run es u found own may k x h =
+settled_entries run es u found valid_links may k x h =
     elim (in_either es (record { link = u.text; found = found } ∷ []) x h) [
       | inl a ↦ k x a
-      | inr b ↦ elim b [ inl e ↦ subst (EntryKept run) e (record { link = u; own = own; text = refl; may = may }) | inr z ↦ absurd z ]
+      | inr b ↦ elim b [ inl e ↦ subst (EntryKept run) e (record { link = u; valid_links = valid_links; text = refl; may = may }) | inr z ↦ absurd z ]
     ]
 
 -- before closing the log grows beside the output
@@ -107,14 +108,16 @@ output_open : (run : Run) (log new : List Triple) (out : Output) → out.closed 
 output_open run log new out open' k = record { names = k.names; early = k.early; answers = λ h. absurd (cc); due = k.due }
 
 pub settled_kept : (run : Run) (s : State) (n : ℕ) (u : Link) (found : Found) → s.out.closed ≡ false → state_at s.table n ≡ Some InFlight → link_at s.table n ≡ Some u → s.drawn ≡ length s.log → AreLinks (targets (rule_of run) found) → MayFind run u found → IsKept run s → IsKept run (settled (rule_of run) s n u.text found)
-settled_kept run s n u found open' at l dry own may k =
+settled_kept run s n u found open' at l dry valid_links may k =
     let us = targets (rule_of run) found in
     record {
+      told = k.told;
       reach = subst (λ (rows : List (Text × LinkState)). LinksKept run rows (s.entries ++ record { link = u.text; found = found } ∷ [])) (sym (marks_with_state (queue_all s.table us) n Settled))
           (settled_links run (marks s.table) (marks (queue_all s.table us)) s.entries n u.text found (grown s.table us) (state_marks s.table n ∙ at) (link_marks s.table n u l) k.reach);
-      own = subst AreLinks (sym (links_with_state (queue_all s.table us) n Settled)) (own_queue_all s.table us k.own own);
+      order = order_settled run s.table s.entries n u found l k.order;
+      valid_links = subst AreLinks (sym (links_with_state (queue_all s.table us) n Settled)) (own_queue_all s.table us k.valid_links valid_links);
       log = settled_log s.entries s.log u.text found s.drawn dry k.log;
-      entries = settled_entries run s.entries u found (k.own u (link_in s.table n u l)) may k.entries;
+      entries = settled_entries run s.entries u found (k.valid_links u (link_in s.table n u l)) may k.entries;
       output = output_open run s.log (settled (rule_of run) s n u.text found).log s.out open' k.output;
       stop = stop_open run s (settled (rule_of run) s n u.text found) open' (omega arith) refl k.stop;
     }
@@ -129,10 +132,10 @@ settled_flies rows us n at =
     omega arith
 
 pub settled_tied : (run : Run) (q : Query) (c : Criterion) (ps : List TriplePattern) (limit f : ℕ) (s : State) (n : ℕ) (u : Link) (found : Found) → IsTied run q c ps limit f s → s.out.closed ≡ false → state_at s.table n ≡ Some InFlight → link_at s.table n ≡ Some u → s.drawn ≡ length s.log → AreLinks (targets (rule_of run) found) → MayFind run u found → IsTied run q c ps limit (f - 1) (settled (rule_of run) s n u.text found)
-settled_tied run q c ps limit f s n u found k open' at l dry own may =
+settled_tied run q c ps limit f s n u found k open' at l dry valid_links may =
     let count = settled_flies s.table (targets (rule_of run) found) n at in
     let b = k.counted in
-    tied_to run q c ps limit f (f - 1) s (settled (rule_of run) s n u.text found) k (omega arith) (settled_kept run s n u found open' at l dry own may k.kept)
+    tied_to run q c ps limit f (f - 1) s (settled (rule_of run) s n u.text found) k (omega arith) (settled_kept run s n u found open' at l dry valid_links may k.kept)
 
 pub targets_same : (run : Run) (c : Criterion) (p q : List TriplePattern) (found : Found) → q ≡ p → c ≡ run.criterion → p ≡ patterns_of run.query → targets (record { criterion = c; patterns = q }) found ≡ targets (rule_of run) found
 targets_same run c p q found e f h =

@@ -1,11 +1,11 @@
 -- What is open at a fetcher stays what is in flight in the table.
 use Rattle.std.proofs.Common.{ℕ, zero, suc, ◌≡◌, ◌≢◌, ◌⊎◌, ◌+◌, ◌-◌, ◌*◌, ◌<◌, ◌≤◌, List, [], ◌∷◌, ◌++◌, Option, Some, None, Bool, true, false, refl, sym, ◌∙◌, ap, subst, inl, inr, arith, length, length-append, drop}
-use Rattle.std.specs.Prelude.{if◌then◌else◌, ◌&&◌, nat_lt, IsTrue, IfSome, map}
+use Rattle.std.specs.Prelude.{if◌then◌else◌, ◌&&◌, nat_lt, IsTrue, IfSome, IsSome, map}
 use Rattle.std.specs.Option.{option_map}
 use Rattle.std.proofs.lemmas.Option.{same_Some}
 use Rattle.std.proofs.lemmas.Bool.Decides.{nat_tests}
 use Rattle.rdf_terms.specs.Lists.{IsIn, Apart}
-use Rattle.rdf_terms.proofs.Members.{in_either, in_map, from_map, apart_push, map_push}
+use Rattle.rdf_terms.proofs.Members.{in_map, from_map}
 use Rattle.link_uri.specs.declared.link.Link.{Link}
 use Rattle.link_uri.specs.declared.link.Scheme.{Scheme}
 use Rattle.link_uri.specs.declared.link.Scheme.TheVariants.{Http, Https}
@@ -17,24 +17,23 @@ use Rattle.link_queue.specs.Table.{link_at, state_at, with_state, first_queued, 
 use Rattle.link_queue.specs.LinkStates.{weight}
 use Rattle.link_queue.proofs.Places.{state_within, state_with_state, link_there, flying_with_state, first_queued_state}
 use Rattle.link_queue.proofs.Growth.{state_grown, link_grown, flying_marks}
-use Rattle.reach_terms.specs.declared.outcome.Outcome.{Outcome}
-use Rattle.reach_terms.specs.declared.outcome.Outcome.TheVariants.{Refused}
-use Rattle.reach_terms.specs.declared.outcome.Why.TheVariants as why
-use Rattle.reach_terms.specs.declared.record.Cause.{Cause}
-use Rattle.reach_terms.specs.declared.record.Entry.{Entry}
-use Rattle.reach_terms.specs.declared.record.Found.{Found}
-use Rattle.reach_terms.specs.declared.record.Found.TheVariants.{Outcome as Told, Unreachable}
-use Rattle.reach_terms.specs.declared.web.Web.{Web}
-use Rattle.reach_terms.specs.Web.{Fetch, heard_at}
-use Rattle.reach_terms.specs.Reach.{Text}
+use Rattle.reachability.specs.declared.outcome.Outcome.{Outcome}
+use Rattle.reachability.specs.declared.outcome.Outcome.TheVariants.{Refused}
+use Rattle.reachability.specs.declared.outcome.Why.TheVariants as why
+use Rattle.reachability.specs.declared.record.Cause.{Cause}
+use Rattle.reachability.specs.declared.record.Entry.{Entry}
+use Rattle.reachability.specs.declared.record.Found.{Found}
+use Rattle.reachability.specs.declared.record.Found.TheVariants.{Outcome as Told, Unreachable}
+use Rattle.reachability.specs.Web.{ToldWeb, Fetch, NeverHeard}
+use Rattle.reachability.specs.Reach.{Text}
 use Rattle.doc_reader.specs.Outcome.{outcome, scheme_outcome}
 use Rattle.web_port.specs.declared.flight.Flight.{Flight}
 use Rattle.web_port.specs.declared.fetcher.Got.{Got}
 use Rattle.web_port.specs.declared.fetcher.Got.TheVariants.{Heard as Answered, Unreachable as Lost}
 use Rattle.web_port.specs.Flights.{flight_number, numbers, fresh, without}
-use Rattle.web_port.specs.Port.{Port, heard_of, NeverHeard, Gives, Lands, Waits, Starts, Stays, PortKept}
-use Rattle.web_port.proofs.PortLemmas.{go_from, go_length, in_without, kept_gone, kept_lands}
-use Rattle.traverse_core.specs.Run.{Run, rule_of, targets, MayFind, NeverAnswers, AgreesAt}
+use Rattle.web_port.specs.Port.{Port, Gives, Lands, Waits, Starts, Stays, PortKept}
+use Rattle.web_port.proofs.PortLemmas.{go_from, go_length, in_without, kept_gone, kept_lands, from_start, length_starts, kept_starts}
+use Rattle.traverse_core.specs.Run.{Run, rule_of, targets, TellsIfSure, MayFind, AgreesAt}
 use Rattle.traverse_core.specs.State.{State, is_running, next_of, MayClose}
 use Rattle.traverse_core.specs.Kept.{IsKept}
 use Rattle.traverse_core.specs.Steps.{restated, settled}
@@ -108,37 +107,21 @@ taken_fresh run s flights n h k = fresh_number s.table flights n k (takes run s 
 out_other : (rows : List (Link × LinkState)) (n : ℕ) (s : LinkState) (x : Flight) → x.number ≢ n → IsOut rows x → IsOut (with_state rows n s) x
 out_other rows n s x d o = record { link = o.link; at = link_at_with rows n x.number s ∙ o.at; state = state_at_other rows n x.number s d ∙ o.state; text = o.text; plain = o.plain }
 
-shared_started : (rows : List (Link × LinkState)) (flights : List Flight) (n : ℕ) (u : Link) → IsShared rows flights → state_at rows n ≡ Some Queued → link_at rows n ≡ Some u → u.scheme ≡ Http → IsShared (with_state rows n InFlight) (flights ++ fresh n u.text ∷ [])
-shared_started rows flights n u k q l plain =
-    let count = flying_with_state rows n InFlight Queued q in
+shared_started : (rows : List (Link × LinkState)) (p q : Port) (n : ℕ) (u : Link) → Starts p n u.text q → IsShared rows p.flights → state_at rows n ≡ Some Queued → link_at rows n ≡ Some u → u.scheme ≡ Http → IsShared (with_state rows n InFlight) q.flights
+shared_started rows p q n u s k waits l plain =
+    let count = flying_with_state rows n InFlight Queued waits in
     let c = k.counted in
-    let len = length-append flights (fresh n u.text ∷ []) in
+    let len = length_starts p q n u.text s in
     record {
       out = λ x h.
-          elim (in_either flights (fresh n u.text ∷ []) x h) [
-            | inl a ↦
-                let d : x.number ≢ n = λ e. fresh_number rows flights n k q (subst (λ (w : ℕ). IsIn (numbers flights) w) e (in_map flight_number flights x a)) in
+          elim (from_start p q n u.text x s h) [
+            | inl e ↦ subst (λ (y : Flight). IsOut (with_state rows n InFlight) y) e
+                (record { link = u; at = link_at_with rows n n InFlight ∙ l; state = state_with_state rows n Queued InFlight waits; text = refl; plain = plain })
+            | inr a ↦
+                let d : x.number ≢ n = λ e. fresh_number rows p.flights n k waits (subst (λ (w : ℕ). IsIn (numbers p.flights) w) e (in_map flight_number p.flights x a)) in
                 out_other rows n InFlight x d (k.out x a)
-            | inr b ↦ elim b [
-              | inl e ↦ subst (λ (y : Flight). IsOut (with_state rows n InFlight) y) e
-                  (record { link = u; at = link_at_with rows n n InFlight ∙ l; state = state_with_state rows n Queued InFlight q; text = refl; plain = plain })
-              | inr z ↦ absurd z
-            ]
           ];
       counted = omega arith;
-    }
-
-kept_started : (fetch : Fetch) (lanes : ℕ) (flights : List Flight) (n : ℕ) (text : Text) → PortKept fetch lanes flights → (IsIn (numbers flights) n → ⊥) → length flights < lanes → PortKept fetch lanes (flights ++ fresh n text ∷ [])
-kept_started fetch lanes flights n text k new room =
-    let len = length-append flights (fresh n text ∷ []) in
-    record {
-      once = subst (λ (ns : List ℕ). Apart ns) (sym (map_push flight_number flights (fresh n text))) (apart_push (numbers flights) n k.once new);
-      never = λ x h s f.
-          elim (in_either flights (fresh n text ∷ []) x h) [
-            | inl a ↦ k.never x a s f
-            | inr b ↦ elim b [ inl e ↦ let g = ap (λ (y : Flight). y.failed) e in absurd (omega arith) | inr z ↦ absurd z ]
-          ];
-      within = omega arith;
     }
 
 -- what a turn leaves
@@ -153,8 +136,8 @@ started run fetch lanes s p q n u t k l plain room st =
     record {
       step = record {
         runs = k.runs;
-        shared = subst (λ (fl : List Flight). IsShared (with_state s.table n InFlight) fl) (sym st.flights) (shared_started s.table p.flights n u k.shared t.queued l plain);
-        port = subst (λ (fl : List Flight). PortKept fetch lanes fl) (sym st.flights) (kept_started fetch lanes p.flights n u.text k.port (fresh_number s.table p.flights n k.shared t.queued) room);
+        shared = shared_started s.table p q n u st k.shared t.queued l plain;
+        port = kept_starts fetch lanes p q n u.text st (fresh_number s.table p.flights n k.shared t.queued) room k.port;
         serves = k.serves;
       };
       turn = record { less = omega arith; paid = paid_starts p q (tallies s.entries) n u.text st };
@@ -216,22 +199,22 @@ pub record LandsOn (run : Run) (rows : List (Link × LinkState)) (n : ℕ) (got 
   pub may : (found : Found) → found_of link body got ≡ Some found → MayFind run link found
   pub answer : IsAnswer got
 
-agrees_at : (web : Web) (link : Link) (heard : Heard) (body : ℕ) (o : Option Outcome) (found : Found) → heard_of web link.text ≡ heard → outcome link heard body ≡ o → option_map Told o ≡ Some found → AgreesAt web body link found
+agrees_at : (web : ToldWeb) (link : Link) (heard : Heard) (body : ℕ) (o : Option Outcome) (found : Found) → web link.text ≡ heard → outcome link heard body ≡ o → option_map Told o ≡ Some found → AgreesAt web body link found
 agrees_at web link heard body (Some x) found h e f = subst (AgreesAt web body link) (same_Some _ _ f) (ap (λ (y : Heard). outcome link y body) h ∙ e)
 agrees_at web link heard body None found h e f = absurd (cc)
 
-told_agrees : (told web : Option Web) (link : Link) (heard : Heard) (body : ℕ) (found : Found) → IfSome told (λ w. web ≡ Some w) → IfSome web (λ w. heard_of w link.text ≡ heard) → option_map Told (outcome link heard body) ≡ Some found → IfSome told (λ w. AgreesAt w body link found)
+told_agrees : (told web : Option ToldWeb) (link : Link) (heard : Heard) (body : ℕ) (found : Found) → IfSome told (λ w. web ≡ Some w) → IfSome web (λ w. w link.text ≡ heard) → option_map Told (outcome link heard body) ≡ Some found → IfSome told (λ w. AgreesAt w body link found)
 told_agrees None web link heard body found same hears is = tt
 told_agrees (Some w) web link heard body found same hears is =
-    agrees_at w link heard body (outcome link heard body) found (subst (λ (o : Option Web). IfSome o (λ v. heard_of v link.text ≡ heard)) same hears) refl is
+    agrees_at w link heard body (outcome link heard body) found (subst (λ (o : Option ToldWeb). IfSome o (λ v. v link.text ≡ heard)) same hears) refl is
 
-lost_agrees : (told : Option Web) (body : ℕ) (link : Link) (cause : Cause) (tries : ℕ) → IfSome told (λ w. AgreesAt w body link (Unreachable cause tries))
+lost_agrees : (told : Option ToldWeb) (body : ℕ) (link : Link) (cause : Cause) (tries : ℕ) → IfSome told (λ w. AgreesAt w body link (Unreachable cause tries))
 lost_agrees None body link cause tries = tt
 lost_agrees (Some w) body link cause tries = tt
 
-never_answers : (told web : Option Web) (link : Link) → IfSome told (λ w. web ≡ Some w) → NeverHeard web link.text → NeverAnswers told link
-never_answers None web link same never = tt
-never_answers (Some w) web link same never = subst (λ (o : Option Web). NeverHeard o link.text) same never
+never_heard : (told web : Option ToldWeb) (text : Text) → IsSome told → IfSome told (λ w. web ≡ Some w) → NeverHeard web text → NeverHeard told text
+never_heard None web text tells same never = absurd (cc)
+never_heard (Some w) web text tells same never = subst (λ (o : Option ToldWeb). NeverHeard o text) same never
 
 told_not_lost : (link : Link) (heard : Heard) (body : ℕ) (cause : Cause) (tries : ℕ) → option_map Told (outcome link heard body) ≡ Some (Unreachable cause tries) → ⊥
 told_not_lost link heard body cause tries e = no_told (outcome link heard body) cause tries e
@@ -240,31 +223,31 @@ told_not_lost link heard body cause tries e = no_told (outcome link heard body) 
     no_told (Some x) cause tries e = absurd (cc)
     no_told None cause tries e = absurd (cc)
 
-may_find : (run : Run) (fetch : Fetch) (x : Flight) (link : Link) (got : Got) (found : Found) → 0 < fetch.tries → Serves run fetch → link.text ≡ x.link → link.scheme ≡ Http → (fetch.sure ≡ true → 0 < x.failed → NeverHeard fetch.web x.link) → Gives fetch x got → found_of link run.body got ≡ Some found → MayFind run link found
-may_find run fetch x link (Answered heard) found some serves text plain never gives is =
-    let hears : IfSome fetch.web (λ w. heard_of w link.text ≡ heard) = subst (λ (t : Text). IfSome fetch.web (λ w. heard_of w t ≡ heard)) (sym text) gives.1 in
+may_find : (run : Run) (fetch : Fetch) (x : Flight) (link : Link) (got : Got) (found : Found) → 0 < fetch.tries → TellsIfSure run.fetch → Serves run fetch → link.text ≡ x.link → link.scheme ≡ Http → (fetch.sure ≡ true → 0 < x.failed → NeverHeard fetch.web x.link) → Gives fetch x got → found_of link run.body got ≡ Some found → MayFind run link found
+may_find run fetch x link (Answered heard) found some tells serves text plain never gives is =
+    let hears : IfSome fetch.web (λ w. w link.text ≡ heard) = subst (λ (t : Text). IfSome fetch.web (λ w. w t ≡ heard)) (sym text) gives.1 in
     record {
       agrees = told_agrees run.fetch.web fetch.web link heard run.body found serves.web hears is;
       https = λ s. absurd (cc);
       tried = λ cause tries e. absurd (told_not_lost link heard run.body cause tries (is ∙ ap (λ (f : Found). Some f) e));
       sure = λ cause tries s e. absurd (told_not_lost link heard run.body cause tries (is ∙ ap (λ (f : Found). Some f) e));
     }
-may_find run fetch x link (Lost c n) found some serves text plain never gives is =
+may_find run fetch x link (Lost c n) found some tells serves text plain never gives is =
     let e : Unreachable c n ≡ found = same_Some _ _ is in
     let f = gives.0 in
     subst (MayFind run link) e (record {
       agrees = lost_agrees run.fetch.web run.body link c n;
       https = λ s. absurd (cc);
       tried = λ cause tries d. let t : n ≡ tries = cc in sym t ∙ (gives.1 ∙ serves.tries);
-      sure = λ cause tries s d. never_answers run.fetch.web fetch.web link serves.web (subst (λ (t : Text). NeverHeard fetch.web t) (sym text) (never (serves.sure s) (omega arith)));
+      sure = λ cause tries s d. never_heard run.fetch.web fetch.web link.text (tells s) serves.web (subst (λ (t : Text). NeverHeard fetch.web t) (sym text) (never (serves.sure s) (omega arith)));
     })
 
 is_answer : (fetch : Fetch) (x : Flight) (got : Got) → Gives fetch x got → IsAnswer got
 is_answer fetch x (Answered heard) g = g.0
 is_answer fetch x (Lost cause tries) g = tt
 
-landed : (run : Run) (fetch : Fetch) (lanes : ℕ) (rows : List (Link × LinkState)) (p q : Port) (n : ℕ) (got : Got) → 0 < fetch.tries → Serves run fetch → IsShared rows p.flights → PortKept fetch lanes p.flights → Lands fetch p n got q → LandsOn run rows n got run.body
-landed run fetch lanes rows p q n got some serves sh k l =
+landed : (run : Run) (fetch : Fetch) (lanes : ℕ) (rows : List (Link × LinkState)) (p q : Port) (n : ℕ) (got : Got) → 0 < fetch.tries → TellsIfSure run.fetch → Serves run fetch → IsShared rows p.flights → PortKept fetch lanes p.flights → Lands fetch p n got q → LandsOn run rows n got run.body
+landed run fetch lanes rows p q n got some tells serves sh k l =
     let x = go_from fetch p.flights l.mid l.flight l.turns.all l.flew in
     let o = sh.out x.0 x.1 in
     let number : x.0.number ≡ n = sym x.2.number ∙ l.names in
@@ -274,13 +257,13 @@ landed run fetch lanes rows p q n got some serves sh k l =
       at = subst (λ (m : ℕ). link_at rows m ≡ Some o.link) number o.at;
       out = subst (λ (m : ℕ). state_at rows m ≡ Some InFlight) number o.state;
       plain = o.plain;
-      may = λ found is. may_find run fetch l.flight o.link got found some serves (o.text ∙ sym x.2.link) o.plain (kept.never l.flight l.flew) l.gives is;
+      may = λ found is. may_find run fetch l.flight o.link got found some tells serves (o.text ∙ sym x.2.link) o.plain (kept.never l.flight l.flew) l.gives is;
       answer = is_answer fetch l.flight got l.gives;
     }
 
-pub landed_here : (run : Run) (fetch : Fetch) (lanes : ℕ) (s : State) (p q : Port) (n : ℕ) (got : Got) (body : ℕ) → 0 < fetch.tries → body ≡ run.body → InStep run fetch lanes s p → Lands fetch p n got q → LandsOn run s.table n got body
-landed_here run fetch lanes s p q n got body some e step l =
-    subst (LandsOn run s.table n got) (sym e) (landed run fetch lanes s.table p q n got some step.serves step.shared step.port l)
+pub landed_here : (run : Run) (fetch : Fetch) (lanes : ℕ) (s : State) (p q : Port) (n : ℕ) (got : Got) (body : ℕ) → 0 < fetch.tries → body ≡ run.body → IsKept run s → InStep run fetch lanes s p → Lands fetch p n got q → LandsOn run s.table n got body
+landed_here run fetch lanes s p q n got body some e kept step l =
+    subst (LandsOn run s.table n got) (sym e) (landed run fetch lanes s.table p q n got some kept.told step.serves step.shared step.port l)
 
 -- what the code asks for before it settles
 pub may_settle : (run : Run) (rows : List (Link × LinkState)) (n : ℕ) (got : Got) (body : ℕ) → LandsOn run rows n got body → (u : Link) (found : Found) → link_at rows n ≡ Some u → found_of u body got ≡ Some found → MayFind run u found
@@ -313,7 +296,7 @@ shared_landed fetch lanes rows p q n got found us at sh k l y =
 -- a turn that settles a link
 pub settled_turn : (run : Run) (fetch : Fetch) (lanes : ℕ) (s t : State) (p q : Port) (n : ℕ) (got : Got) (body : ℕ) → 0 < fetch.tries → body ≡ run.body → IsKept run s → InStep run fetch lanes s p → Lands fetch p n got q → ((u : Link) → link_at s.table n ≡ Some u → SettlesGot run n u body got s t) → Turned run fetch lanes s p t q
 settled_turn run fetch lanes s t p q n got body some e kept step l h =
-    let x = landed_here run fetch lanes s p q n got body some e step l in
+    let x = landed_here run fetch lanes s p q n got body some e kept step l in
     let w = h x.link x.at in
     let y = pays fetch lanes p q n got w.found step.port l (counts_for x.link body got w.found x.plain w.of) in
     let us = targets (rule_of run) w.found in
@@ -362,16 +345,16 @@ may_close run fetch lanes s p ready step idle left =
       last = elim left [ inl l ↦ absurd (omega arith) | inr n ↦ n ];
     }
 
--- the counts of a whole run, over its new entries
-pub exactly_at : (p q : Port) (s t u : State) → p.flights ≡ [] → q.flights ≡ [] → u.entries ≡ t.entries → RunsOn s t → Paid p (tallies s.entries) q (tallies t.entries) → StartsExactly p q (entries_since s u)
-exactly_at p q s t u e f same on a =
-    subst (λ (es : List Entry). StartsExactly p q (drop (length s.entries) es)) (sym same) (paid_exactly p q s.entries t.entries (entries_since s t) e f on.entries a)
+-- the counts of a whole run, over its entries
+pub exactly_at : (p q : Port) (s t u : State) → p.flights ≡ [] → q.flights ≡ [] → u.entries ≡ t.entries → Paid p (tallies s.entries) q (tallies t.entries) → StartsExactly p (tallies s.entries) q (tallies u.entries)
+exactly_at p q s t u e f same a =
+    subst (λ (es : List Entry). StartsExactly p (tallies s.entries) q (tallies es)) (sym same) (paid_exactly p q (tallies s.entries) (tallies t.entries) e f a)
 
-pub totals_at : (lanes : ℕ) (p q : Port) (s t u : State) → p.flights ≡ [] → u.entries ≡ t.entries → RunsOn s t → Covered lanes p (tallies s.entries) q (tallies t.entries) → Totals lanes p q (entries_since s u)
-totals_at lanes p q s t u e same on c =
-    subst (λ (es : List Entry). Totals lanes p q (drop (length s.entries) es)) (sym same) (covered_totals lanes p q s.entries t.entries (entries_since s t) e on.entries c)
+pub totals_at : (lanes : ℕ) (p q : Port) (s t u : State) → p.flights ≡ [] → u.entries ≡ t.entries → Covered lanes p (tallies s.entries) q (tallies t.entries) → Totals lanes p (tallies s.entries) q (tallies u.entries)
+totals_at lanes p q s t u e same c =
+    subst (λ (es : List Entry). Totals lanes p (tallies s.entries) q (tallies es)) (sym same) (covered_totals lanes p q (tallies s.entries) (tallies t.entries) e c)
 
-told_same : (told web : Option Web) → web ≡ told → IfSome told (λ w. web ≡ Some w)
+told_same : (told web : Option ToldWeb) → web ≡ told → IfSome told (λ w. web ≡ Some w)
 told_same None web e = tt
 told_same (Some w) web e = e
 

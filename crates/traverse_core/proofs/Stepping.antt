@@ -1,21 +1,21 @@
 -- Lists of commands, and what a link may be found with.
-use Rattle.std.proofs.Common.{ℕ, ◌≡◌, List, [], ◌∷◌, ◌++◌, Option, Some, None, ap, subst, inl, inr}
-use Rattle.std.specs.Prelude.{IfSome}
+use Rattle.std.proofs.Common.{ℕ, ◌≡◌, List, [], ◌∷◌, ◌++◌, Option, Some, None, true, false, ap, sym, subst, inl, inr}
+use Rattle.std.specs.Prelude.{IfSome, IsSome}
 use Rattle.rdf_terms.specs.Lists.{IsIn}
 use Rattle.rdf_terms.proofs.Members.{in_either}
 use Rattle.link_uri.specs.declared.link.Link.{Link}
 use Rattle.link_uri.specs.declared.link.Scheme.TheVariants.{Https}
-use Rattle.reach_terms.specs.declared.outcome.Outcome.{Outcome}
-use Rattle.reach_terms.specs.declared.outcome.Outcome.TheVariants.{Refused}
-use Rattle.reach_terms.specs.declared.outcome.Why.TheVariants as why
-use Rattle.reach_terms.specs.declared.record.Found.TheVariants.{Outcome as Told}
+use Rattle.reachability.specs.declared.outcome.Outcome.{Outcome}
+use Rattle.reachability.specs.declared.outcome.Outcome.TheVariants.{Refused}
+use Rattle.reachability.specs.declared.outcome.Why.TheVariants as why
+use Rattle.reachability.specs.declared.record.Found.TheVariants.{Outcome as Told}
 use Rattle.traverse_core.specs.declared.steps.Command.{Command}
-use Rattle.reach_terms.specs.declared.record.Found.{Found}
-use Rattle.reach_terms.specs.declared.web.Web.{Web}
-use Rattle.traverse_core.specs.Run.{Run, AgreesAt, MayFind}
+use Rattle.reachability.specs.declared.record.Found.{Found}
+use Rattle.reachability.specs.Web.{ToldWeb, Fetch}
+use Rattle.traverse_core.specs.Run.{Run, TellsIfSure, AgreesAt, MayFind}
 use Rattle.traverse_core.specs.Steps.{MayBe, AllMayBe}
 
-untold : (web : Option Web) (body : ℕ) (u : Link) (f : Found) → web ≡ None → IfSome web (λ w. AgreesAt w body u f)
+untold : (web : Option ToldWeb) (body : ℕ) (u : Link) (f : Found) → web ≡ None → IfSome web (λ w. AgreesAt w body u f)
 untold None body u f e = tt
 untold (Some w) body u f e = absurd (cc)
 
@@ -28,6 +28,14 @@ told_fits run link o none https = record {
   tried = λ cause tries e. absurd (cc);
   sure = λ cause tries s e. absurd (cc);
 }
+
+-- a run that isn't sure need not tell a web
+pub tells_unsure : (run : Run) → run.fetch.sure ≡ false → TellsIfSure run.fetch
+tells_unsure run e = λ sure. absurd (cc)
+
+-- a run tells as its fetcher does
+pub tells_same : (run : Run) (fetch : Fetch) → run.fetch ≡ fetch → (fetch.sure ≡ true → IsSome fetch.web) → TellsIfSure run.fetch
+tells_same run fetch e told = subst TellsIfSure (sym e) told
 
 -- no command
 pub all_none : (run : Run) (cs : List Command) → cs ≡ [] → AllMayBe run cs

@@ -10,19 +10,19 @@ use Rattle.link_queue.specs.declared.state.LinkState.{LinkState}
 use Rattle.link_queue.specs.declared.state.LinkState.TheVariants.{InFlight}
 use Rattle.link_queue.specs.Table.{link_at, state_at, flying}
 use Rattle.outer_ports.specs.Causes.{Rose}
-use Rattle.reach_terms.specs.declared.outcome.Outcome.TheVariants.{Refused}
-use Rattle.reach_terms.specs.declared.outcome.Why.TheVariants as why
-use Rattle.reach_terms.specs.declared.record.Entry.{Entry}
-use Rattle.reach_terms.specs.declared.record.Found.{Found}
-use Rattle.reach_terms.specs.declared.record.Found.TheVariants.{Outcome as Told, Unreachable}
-use Rattle.reach_terms.specs.Web.{Fetch}
-use Rattle.reach_terms.specs.Reach.{Text}
+use Rattle.reachability.specs.declared.outcome.Outcome.TheVariants.{Refused}
+use Rattle.reachability.specs.declared.outcome.Why.TheVariants as why
+use Rattle.reachability.specs.declared.record.Entry.{Entry}
+use Rattle.reachability.specs.declared.record.Found.{Found}
+use Rattle.reachability.specs.declared.record.Found.TheVariants.{Outcome as Told, Unreachable}
+use Rattle.reachability.specs.Web.{Fetch}
+use Rattle.reachability.specs.Reach.{Text}
 use Rattle.doc_reader.specs.Outcome.{outcome}
 use Rattle.web_port.specs.declared.flight.Flight.{Flight}
 use Rattle.web_port.specs.declared.fetcher.Got.{Got}
 use Rattle.web_port.specs.declared.fetcher.Got.TheVariants.{Heard as Answered, Unreachable as Lost}
 use Rattle.web_port.specs.Port.{Port, PortKept, Starts}
-use Rattle.row_writer.specs.Output.{IsClear}
+use Rattle.result_writer.specs.Output.{IsClear}
 use Rattle.traverse_core.specs.declared.steps.Halt.TheVariants as halt
 use Rattle.traverse_core.specs.Run.{Run, rule_of}
 use Rattle.traverse_core.specs.State.{State, is_running, IsDry}

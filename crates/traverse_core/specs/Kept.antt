@@ -1,9 +1,9 @@
 -- What every state of a traversal keeps.
 use Rattle.std.specs.Prelude.{ℕ, ◌≡◌, ◌+◌, ◌≤◌, ◌⊎◌, List, [], ◌∷◌, Some, None, true, false, length, drop}
 use Rattle.rdf_terms.specs.declared.triple.Triple.{Triple}
-use Rattle.rdf_terms.specs.Lists.{IsIn, Apart}
+use Rattle.rdf_terms.specs.Lists.{IsIn, Apart, add_all}
 use Rattle.link_uri.specs.declared.link.Link.{Link}
-use Rattle.link_uri.specs.Links.{IsLink, AreLinks}
+use Rattle.link_uri.specs.Links.{IsLink, AreLinks, same_link}
 use Rattle.link_queue.specs.declared.state.LinkState.{LinkState}
 use Rattle.link_queue.specs.declared.state.LinkState.TheVariants.{Settled}
 use Rattle.link_queue.specs.Table.{links, marks, first_queued, flying}
@@ -11,16 +11,17 @@ use Rattle.outer_ports.specs.Causes.{Rose}
 use Rattle.algebra_core.specs.Graphs.{graph}
 use Rattle.reach_criteria.specs.declared.criterion.Criterion.{Criterion}
 use Rattle.rows_core.specs.declared.pattern.TriplePattern.{TriplePattern}
-use Rattle.reach_terms.specs.declared.record.Entry.{Entry}
-use Rattle.reach_terms.specs.Reach.{Text, HasEdge, IsReachable, NoLink}
-use Rattle.reach_terms.specs.Record.{OutcomesOf, entry_links, found_triples, merged_graph}
+use Rattle.reachability.specs.declared.record.Entry.{Entry}
+use Rattle.reachability.specs.Reach.{Text, HasEdge, IsReachable, NoLink}
+use Rattle.reachability.specs.Record.{OutcomesOf, entry_links, found_triples, merged_graph}
 use Rattle.algebra_core.specs.declared.query.Query.{Query}
 use Rattle.algebra_core.specs.Query.{Answers}
 use Rattle.traverse_core.specs.Query.{patterns_of, selected_names}
-use Rattle.row_writer.specs.Output.{Output, IsDue}
+use Rattle.result_writer.specs.Output.{Output, IsDue}
 use Rattle.traverse_core.specs.declared.steps.Halt.TheVariants as halt
-use Rattle.traverse_core.specs.Run.{Run, rule_of, seeds_of, MayFind}
+use Rattle.traverse_core.specs.Run.{Run, rule_of, seeds_of, TellsIfSure, MayFind}
 use Rattle.traverse_core.specs.State.{State}
+use Rattle.traverse_core.specs.Order.{known_links, AreInOrder}
 
 -- ---- the table and the entries; a link stands here by its text
 
@@ -35,6 +36,12 @@ pub record LinksKept (run : Run) (rows : List (Text × LinkState)) (entries : Li
   pub seeded : (u : Text) → IsIn (seeds_of run) u → IsIn (links rows) u
   pub onward : (u v : Text) → HasEdge (OutcomesOf entries) (rule_of run) u v → IsIn (links rows) v
   pub limited : flying rows + length entries ≤ run.limit
+
+-- the table lists the links in the order in which they became known: the seeds, and then those that
+-- the entries lead to; each entry is of a link that was known before it
+pub record OrderKept (run : Run) (rows : List (Link × LinkState)) (entries : List Entry) : Type 0 where
+  pub known : links rows ≡ known_links (rule_of run) (add_all same_link [] run.seeds) entries
+  pub order : AreInOrder (rule_of run) (add_all same_link [] run.seeds) entries
 
 -- ---- the log
 
@@ -56,7 +63,7 @@ pub record LogKept (entries : List Entry) (log : List Triple) (drawn : ℕ) : Ty
 -- the entry is of the link of its text, and says what a look-up of it may find
 pub record EntryKept (run : Run) (e : Entry) : Type 0 where
   pub link : Link
-  pub own : IsLink link
+  pub valid_links : IsLink link
   pub text : link.text ≡ e.link
   pub may : MayFind run link e.found
 
@@ -83,8 +90,10 @@ pub record StopKept (run : Run) (s : State) : Type 0 where
 -- ---- all of it
 
 pub record IsKept (run : Run) (s : State) : Type 0 where
+  pub told : TellsIfSure run.fetch
   pub reach : LinksKept run (marks s.table) s.entries
-  pub own : AreLinks (links s.table)
+  pub order : OrderKept run s.table s.entries
+  pub valid_links : AreLinks (links s.table)
   pub log : LogKept s.entries s.log s.drawn
   pub entries : (e : Entry) → IsIn s.entries e → EntryKept run e
   pub output : OutputKept run s.log s.out

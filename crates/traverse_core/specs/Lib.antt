@@ -1,6 +1,7 @@
 pub mod Query
 pub mod Run
 pub mod State
+pub mod Order
 pub mod Kept
 pub mod Steps
 pub mod Totals

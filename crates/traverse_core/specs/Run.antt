@@ -1,21 +1,19 @@
 -- What a run is of, and what its look-ups may find.
-use Rattle.std.specs.Prelude.{ℕ, ◌≡◌, List, [], ◌∷◌, Option, Some, None, IfSome, true, false}
+use Rattle.std.specs.Prelude.{ℕ, ◌≡◌, List, [], ◌∷◌, Option, Some, None, IfSome, IsSome, true, false}
 use Rattle.link_uri.specs.declared.link.Link.{Link}
 use Rattle.link_uri.specs.declared.link.Scheme.TheVariants.{Https}
-use Rattle.link_uri.specs.declared.heard.Heard.TheVariants.{Never}
 use Rattle.link_uri.specs.Links.{texts}
 use Rattle.reach_criteria.specs.declared.criterion.Criterion.{Criterion}
 use Rattle.reach_criteria.specs.declared.criterion.Criterion.TheVariants.{All}
 use Rattle.reach_criteria.specs.Follow.{links_of}
 use Rattle.algebra_core.specs.declared.algebra.Algebra.{Bgp}
-use Rattle.reach_terms.specs.declared.outcome.Outcome.TheVariants.{Document, Moved, Refused}
-use Rattle.reach_terms.specs.declared.outcome.Why.TheVariants as why
-use Rattle.reach_terms.specs.declared.record.Cause.{Cause}
-use Rattle.reach_terms.specs.declared.record.Found.{Found}
-use Rattle.reach_terms.specs.declared.record.Found.TheVariants.{Outcome as Told, Unreachable}
-use Rattle.reach_terms.specs.declared.web.Web.{Web}
-use Rattle.reach_terms.specs.Web.{Fetch, heard_at}
-use Rattle.reach_terms.specs.Reach.{Rule, Text}
+use Rattle.reachability.specs.declared.outcome.Outcome.TheVariants.{Document, Moved, Refused}
+use Rattle.reachability.specs.declared.outcome.Why.TheVariants as why
+use Rattle.reachability.specs.declared.record.Cause.{Cause}
+use Rattle.reachability.specs.declared.record.Found.{Found}
+use Rattle.reachability.specs.declared.record.Found.TheVariants.{Outcome as Told, Unreachable}
+use Rattle.reachability.specs.Web.{ToldWeb, Fetch, NeverHeard}
+use Rattle.reachability.specs.Reach.{Rule, Text}
 use Rattle.doc_reader.specs.Outcome as documents
 use Rattle.algebra_core.specs.declared.query.Query.{Query}
 use Rattle.traverse_core.specs.Query.{patterns_of}
@@ -58,23 +56,22 @@ abbrev pub HasLinks : Found → Type 0
 HasLinks (Told outcome) = documents.HasLinks outcome
 HasLinks (Unreachable cause tries) = Unit {0}
 
--- where a web is told, it never answers for the link
-abbrev pub NeverAnswers : Option Web → Link → Type 0
-NeverAnswers None link = Unit {0}
-NeverAnswers (Some web) link = heard_at web link ≡ Never
+-- what is sure tells its web
+abbrev pub TellsIfSure : Fetch → Type 0
+TellsIfSure fetch = fetch.sure ≡ true → IsSome fetch.web
 
 -- what was found is what a look-up in the web comes to, or the link couldn't be reached
-abbrev pub AgreesAt : Web → ℕ → Link → Found → Type 0
+abbrev pub AgreesAt : ToldWeb → ℕ → Link → Found → Type 0
 AgreesAt web body link (Told outcome) = documents.outcome_of web body link ≡ Some outcome
 AgreesAt web body link (Unreachable cause tries) = Unit {0}
 
 -- what a look-up of the link may find: where a web is told, what it answers; an https link is
--- refused; an unreachable link took the run's tries, and in a sure run the web never answers for it
+-- refused; an unreachable link took the run's tries, and in a sure run the told web never answers for it
 pub record MayFind (run : Run) (link : Link) (found : Found) : Type 0 where
   pub agrees : IfSome run.fetch.web (λ web. AgreesAt web run.body link found)
   pub https : link.scheme ≡ Https → found ≡ Told (Refused why.Scheme)
   pub tried : (cause : Cause) (tries : ℕ) → found ≡ Unreachable cause tries → tries ≡ run.fetch.tries
-  pub sure : (cause : Cause) (tries : ℕ) → run.fetch.sure ≡ true → found ≡ Unreachable cause tries → NeverAnswers run.fetch.web link
+  pub sure : (cause : Cause) (tries : ℕ) → run.fetch.sure ≡ true → found ≡ Unreachable cause tries → NeverHeard run.fetch.web link.text
 
 -- the links that what was found leads to, each once, in order of first appearance
 abbrev pub targets : Rule → Found → List Link

@@ -4,8 +4,8 @@ use Rattle.rdf_terms.specs.declared.triple.Triple.{Triple}
 use Rattle.link_uri.specs.declared.link.Link.{Link}
 use Rattle.link_queue.specs.declared.state.LinkState.{LinkState}
 use Rattle.link_queue.specs.Table.{first_queued, flying}
-use Rattle.reach_terms.specs.declared.record.Entry.{Entry}
-use Rattle.row_writer.specs.Output.{Output, IsClear}
+use Rattle.reachability.specs.declared.record.Entry.{Entry}
+use Rattle.result_writer.specs.Output.{Output, IsClear}
 use Rattle.traverse_core.specs.declared.steps.Halt.{Halt}
 use Rattle.traverse_core.specs.Run.{Run}
 

@@ -1,6 +1,6 @@
 -- The steps of a traversal: the state after each is a function of the state before, or a relation
 -- to it where the rows or the sink decide.
-use Rattle.std.specs.Prelude.{ℕ, ◌≡◌, ◌+◌, ◌<◌, ◌⊎◌, List, [], ◌∷◌, ◌++◌, Option, Some, None, IsTrue, if◌then◌else◌, is_none, false, length, slice_get}
+use Rattle.std.specs.Prelude.{ℕ, ◌≡◌, ◌+◌, ◌<◌, ◌≤◌, ◌⊎◌, List, [], ◌∷◌, ◌++◌, Option, Some, None, IsTrue, if◌then◌else◌, is_none, false, length, slice_get}
 use Rattle.rdf_terms.specs.Lists.{IsIn, add_all}
 use Rattle.rdf_terms.specs.Same.{same_triple}
 use Rattle.link_uri.specs.declared.link.Link.{Link}
@@ -10,30 +10,35 @@ use Rattle.link_queue.specs.Table.{state_at, with_state, queue_all}
 use Rattle.rows_core.specs.Rows.{Cells}
 use Rattle.outer_ports.specs.Causes.{Rose}
 use Rattle.json_results.specs.Results.{head_text}
-use Rattle.reach_terms.specs.declared.record.Found.{Found}
-use Rattle.reach_terms.specs.Reach.{Rule, Text}
-use Rattle.reach_terms.specs.Record.{found_triples}
+use Rattle.reachability.specs.declared.record.Found.{Found}
+use Rattle.reachability.specs.Reach.{Rule, Text}
+use Rattle.reachability.specs.Record.{found_triples}
 use Rattle.algebra_core.specs.Query.{Answers}
 use Rattle.traverse_core.specs.Query.{selected_names}
-use Rattle.row_writer.specs.declared.written.Written.{Written}
-use Rattle.row_writer.specs.declared.written.Written.TheVariants.{Wrote, Clear, Failed}
-use Rattle.row_writer.specs.Output.{IsClear, WritesSome, KeepsText, closed_by}
+use Rattle.result_writer.specs.declared.written.Written.{Written}
+use Rattle.result_writer.specs.declared.written.Written.TheVariants.{Wrote, Clear, Failed}
+use Rattle.result_writer.specs.Output.{IsClear, WritesSome, KeepsText, closed_by}
 use Rattle.traverse_core.specs.declared.steps.Halt.TheVariants as halt
 use Rattle.traverse_core.specs.declared.steps.Command.{Command}
 use Rattle.traverse_core.specs.declared.steps.Command.TheVariants as step
 use Rattle.traverse_core.specs.Run.{Run, rule_of, HasLinks, MayFind, targets}
 use Rattle.traverse_core.specs.State.{State, is_running, next_of, IsDry, MayClose}
 
--- open: the seeds, each once, are queued, and the head is pending
-abbrev pub opened : Run → State
-opened run = record {
+-- the seeds, each once, are queued, the head is pending, and these rows wait
+abbrev pub opened : Run → List Cells → State
+opened run rows = record {
   table = queue_all [] run.seeds;
   entries = [];
   log = [];
   drawn = 0;
-  out = record { names = selected_names run.query; rows = []; handed = 0; pending = head_text (selected_names run.query); closed = false; content = run.content; faults = run.faults };
+  out = record { names = selected_names run.query; rows = rows; handed = 0; pending = head_text (selected_names run.query); closed = false; content = run.content; faults = run.faults };
   halted = None;
 }
+
+-- open: rows may wait already, in any order
+pub record Opens (run : Run) (t : State) : Type 0 where
+  pub rows : List Cells
+  pub is : t ≡ opened run rows
 
 -- the link of the number has another state
 abbrev pub restated : State → ℕ → LinkState → State
@@ -55,9 +60,25 @@ settled rule s number text found = record s {
   log = add_all same_triple s.log (found_triples found);
 }
 
+-- rows come to wait behind the others, in any order
+abbrev pub with_rows : State → List Cells → State
+with_rows s more = record s { out = record s.out { rows = s.out.rows ++ more } }
+
+-- one more triple is drawn, and rows may come to wait
+pub record DrawsOne (s t : State) : Type 0 where
+  pub less : s.drawn < length s.log
+  pub more : List Cells
+  pub is : t ≡ record (with_rows s more) { drawn = s.drawn + 1 }
+
 -- draw: one more triple is drawn, or none where all are
 abbrev pub Draws : State → State → Type 0
-Draws s t = (IsDry s × (t ≡ s)) ⊎ ((s.drawn < length s.log) × (t ≡ record s { drawn = s.drawn + 1 }))
+Draws s t = (IsDry s × (t ≡ s)) ⊎ DrawsOne s t
+
+-- triples are drawn, and rows may come to wait
+pub record DrawsOn (s t : State) : Type 0 where
+  pub later : s.drawn ≤ t.drawn
+  pub more : List Cells
+  pub is : t ≡ record (with_rows s more) { drawn = t.drawn }
 
 -- write: the output writes; where the sink fails the run is halted
 abbrev pub WritesOut : State → State → Written → Type 0
@@ -65,11 +86,12 @@ WritesOut s t Wrote = WritesSome s.out t.out × (t ≡ record s { out = t.out })
 WritesOut s t Clear = IsClear s.out × (t ≡ s)
 WritesOut s t Failed = KeepsText s.out t.out × Rose s.out.faults t.out.faults × (t ≡ record s { out = t.out; halted = Some halt.Output })
 
--- close: the answers over the log are the rows, and the tail follows them
+-- close: the rows so far and those that come behind them are the answers over the log, and the tail
+-- follows them
 pub record Closes (run : Run) (s t : State) : Type 0 where
-  pub rows : List Cells
-  pub answers : Answers run.query s.log rows
-  pub is : t ≡ record s { out = closed_by s.out rows }
+  pub more : List Cells
+  pub answers : Answers run.query s.log (s.out.rows ++ more)
+  pub is : t ≡ record s { out = closed_by s.out more }
 
 -- halt, for want of memory
 abbrev pub halted_by_memory : State → State

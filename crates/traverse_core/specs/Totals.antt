@@ -1,12 +1,12 @@
 -- What the counts of a fetcher say of the entries of a run.
 use Rattle.std.specs.Prelude.{ℕ, ◌≡◌, ◌+◌, ◌≤◌, List, [], ◌∷◌, length}
-use Rattle.reach_terms.specs.declared.outcome.Outcome.TheVariants.{Document, Moved, Refused}
-use Rattle.reach_terms.specs.declared.outcome.Why.{Why}
-use Rattle.reach_terms.specs.declared.outcome.Why.TheVariants as why
-use Rattle.reach_terms.specs.declared.record.Cause.{Cause}
-use Rattle.reach_terms.specs.declared.record.Entry.{Entry}
-use Rattle.reach_terms.specs.declared.record.Found.{Found}
-use Rattle.reach_terms.specs.declared.record.Found.TheVariants.{Outcome as Told, Unreachable}
+use Rattle.reachability.specs.declared.outcome.Outcome.TheVariants.{Document, Moved, Refused}
+use Rattle.reachability.specs.declared.outcome.Why.{Why}
+use Rattle.reachability.specs.declared.outcome.Why.TheVariants as why
+use Rattle.reachability.specs.declared.record.Cause.{Cause}
+use Rattle.reachability.specs.declared.record.Entry.{Entry}
+use Rattle.reachability.specs.declared.record.Found.{Found}
+use Rattle.reachability.specs.declared.record.Found.TheVariants.{Outcome as Told, Unreachable}
 use Rattle.web_port.specs.declared.flight.Flight.{Flight}
 use Rattle.web_port.specs.Counts.{lost_in, is_cause}
 use Rattle.web_port.specs.Flights.{failed_tries}
@@ -47,21 +47,9 @@ abbrev pub tally : Kind → List Entry → ℕ
 tally k [] = 0
 tally k (e ∷ es) = weight_of k e.found + tally k es
 
--- ---- over a whole run
-
--- each count of the fetcher rose at least by what the new entries count for, and its starts at most
--- by that and its lanes
-pub record Totals (lanes : ℕ) (before after : Port) (entries : List Entry) : Type 0 where
-  pub started : before.starts + tally Started entries ≤ after.starts
-  pub at_most : after.starts ≤ before.starts + tally Started entries + lanes
-  pub failed : before.faults + tally Failed entries ≤ after.faults
-  pub lost : (c : Cause) → lost_in before.lost c + tally (LostBy c) entries ≤ lost_in after.lost c
-
--- its starts rose by exactly the new entries, but for the links that were refused for their scheme
-abbrev pub StartsExactly : Port → Port → List Entry → Type 0
-StartsExactly before after entries = after.starts ≡ before.starts + tally Started entries
-
--- ---- between two moments of a run
+-- what the entries count for, by kind
+abbrev pub tallies : List Entry → Kind → ℕ
+tallies entries k = tally k entries
 
 -- the count of a fetcher
 abbrev pub count : Port → Kind → ℕ
@@ -69,16 +57,29 @@ count port Started = port.starts
 count port Failed = port.faults
 count port (LostBy c) = lost_in port.lost c
 
+-- ---- over a whole run, at whose ends nothing is open
+-- What is counted for is a function of the kind: the tallies of entries, or the share of one of
+-- several callers.
+
+-- as the port went from p to q, and what is counted for from u to v: each count of the fetcher rose
+-- at least as that did, and its starts at most so and by its lanes
+pub record Totals (lanes : ℕ) (p : Port) (u : Kind → ℕ) (q : Port) (v : Kind → ℕ) : Type 0 where
+  pub least : (k : Kind) → count p k + v k ≤ count q k + u k
+  pub most : q.starts + u Started ≤ p.starts + (v Started + lanes)
+
+-- its starts rose exactly as that did
+abbrev pub StartsExactly : Port → (Kind → ℕ) → Port → (Kind → ℕ) → Type 0
+StartsExactly p u q v = q.starts + u Started ≡ p.starts + v Started
+
+-- ---- between two moments of a run
+
 -- what open links count for
 abbrev pub held : Kind → List Flight → ℕ
 held Started flights = length flights
 held Failed flights = failed_tries flights
 held (LostBy c) flights = 0
 
-abbrev pub tallies : List Entry → Kind → ℕ
-tallies entries k = tally k entries
-
--- as the port went from p to q, and what the entries count for from u to v: what was counted pays
+-- as the port went from p to q, and what is counted for from u to v: what was counted pays
 -- for what is new in v and for what is open, and no start goes beyond that
 pub record Paid (p : Port) (u : Kind → ℕ) (q : Port) (v : Kind → ℕ) : Type 0 where
   pub least : (k : Kind) → count p k + (v k + held k q.flights) ≤ count q k + (u k + held k p.flights)

@@ -77,9 +77,10 @@ fn run_to_end<J: Job, S: Sink, F: Fetcher>(run: &mut Traversal<J, S>, fetcher: &
     }
 }
 
-// Gives back all that is in flight. It returns, since less is then in flight each time.
+/// Gives back all that is in flight. It returns, since less is then in flight each time. No memory
+/// is taken.
 #[tactic(auto, using(crate::proofs::Sharing::less_flies))]
-fn give_all_back<J: Job, S: Sink>(run: &mut Traversal<J, S>)
+pub fn give_all_back<J: Job, S: Sink>(run: &mut Traversal<J, S>)
     ensures landed { flying run.new.table ≡ 0 }
     ensures same { run.new ≡ record run.old { table = run.new.table } }
 {
@@ -124,14 +125,14 @@ impl<J: Job, S: Sink> Traversal<J, S> {
         ensures kept { IsKept J.run self.new }
         ensures entries { self.new.entries ≡ self.old.entries ++ entries_since self.old self.new }
 
-        // What the fetcher's counts say of what is added.
+        // How the fetcher's counts went with what the entries count for.
         ensures same { (F.fetch fetcher.new ≡ F.fetch fetcher.old)
             × (F.lanes fetcher.new ≡ F.lanes fetcher.old) }
         ensures closed { result ≡ Ran.Done → (F.port fetcher.new).flights ≡ [] }
-        ensures exact { result ≡ Ran.Done → StartsExactly (F.port fetcher.old) (F.port fetcher.new)
-            (entries_since self.old self.new) }
-        ensures totals { Totals (F.lanes fetcher.old) (F.port fetcher.old) (F.port fetcher.new)
-            (entries_since self.old self.new) }
+        ensures exact { result ≡ Ran.Done → StartsExactly (F.port fetcher.old) (tallies self.old.entries)
+            (F.port fetcher.new) (tallies self.new.entries) }
+        ensures totals { Totals (F.lanes fetcher.old) (F.port fetcher.old) (tallies self.old.entries)
+            (F.port fetcher.new) (tallies self.new.entries) }
     {
         run_to_end(self, fetcher, body);
         give_all_back(self);

@@ -11,7 +11,7 @@ use link_queue::LinkState;
 use link_uri::Link;
 use outer_ports::Sink;
 use rdf_terms::Memory;
-use reach_terms::Found;
+use reachability::Found;
 use std::collections::VecDeque;
 
 pub(crate) fn take<J: Job, S: Sink>(run: &mut Traversal<J, S>)

@@ -1,5 +1,5 @@
 use crate::steps::Halt;
-use reach_terms::Record;
+use reachability::Record;
 
 /// What a traversal ends with.
 #[derive(Drop)]

@@ -4,7 +4,7 @@ ghost use Rattle.rdf_terms.specs.Same.{same_triple};
 ghost use Rattle.link_uri.specs.Links.{IsLink, AreLinks};
 ghost use Rattle.link_queue.specs.Table.{queue_all, state_at, with_state};
 ghost use Rattle.link_queue.specs.declared.state.LinkState.TheVariants.{InFlight, Settled};
-ghost use Rattle.reach_terms.specs.Record.{found_triples};
+ghost use Rattle.reachability.specs.Record.{found_triples};
 ghost use Rattle.traverse_core.specs.Run.{HasLinks, targets};
 
 use growing_graph::Graph;
@@ -12,7 +12,7 @@ use link_queue::LinkTable;
 use link_uri::Link;
 use rdf_terms::{Memory, TextBuf, Triple};
 use reach_criteria::{Criterion, links_of};
-use reach_terms::{Entry, Found, Outcome};
+use reachability::{Entry, Found, Outcome};
 use rows_core::TriplePattern;
 use std::alloc::Global;
 
@@ -28,7 +28,7 @@ fn triples_in(found: &Found) -> &[Triple]
 pub(crate) fn one_link(alloc: Global, link: &Link) -> Result<Vec<Link>, Memory>
     requires { IsLink link.now }
     ensures links { IfOk result (λ links. links.items ≡ link.now ∷ []) }
-    ensures own { IfOk result (λ links. AreLinks links.items) }
+    ensures valid_links { IfOk result (λ links. AreLinks links.items) }
 {
     let mut links = Vec::new(alloc);
     links.push(link.copy()?)?;
@@ -45,7 +45,7 @@ pub fn targets_of(
     requires { HasLinks found.now }
     ensures links { IfOk result (λ links. links.items
         ≡ targets (record { criterion = criterion; patterns = patterns.now }) found.now) }
-    ensures own { IfOk result (λ links. AreLinks links.items) }
+    ensures valid_links { IfOk result (λ links. AreLinks links.items) }
 {
     match found {
         Found::Outcome(Outcome::Document(triples)) => {
@@ -102,7 +102,7 @@ pub fn record_found(
     links: &[Link],
 ) -> Result<(), Memory>
     requires out { state_at table.old number ≡ Some InFlight }
-    requires own { AreLinks links.now }
+    requires valid_links { AreLinks links.now }
     ensures table { OnOk result (table.new ≡ with_state (queue_all table.old links.now) number Settled) }
     ensures log { OnOk result (log.new ≡ add_all same_triple log.old (found_triples found)) }
     ensures entries { OnOk result (entries.new.items ≡ entries.old.items ++ record { link = text; found = found } ∷ []) }

@@ -1,5 +1,5 @@
 use link_uri::Link;
-use reach_terms::Found;
+use reachability::Found;
 
 /// Why a traversal was halted.
 #[derive(Clone, Copy, Debug, PartialEq, Eq, Drop)]

@@ -9,12 +9,13 @@ ghost use Rattle.doc_reader.specs.Outcome.{outcome_of};
 ghost use Rattle.algebra_core.specs.Query.{Answers};
 ghost use Rattle.traverse_core.specs.Query.{selected_names};
 ghost use Rattle.rows_core.specs.Rows.{Cells};
-ghost use Rattle.row_writer.specs.Output.{IsClear};
-ghost use Rattle.reach_terms.specs.Record.{IsTraversed, IsFaithful, HasEnded, LooksUpReachable, merged_graph};
-ghost use Rattle.traverse_core.specs.Run.{HasLinks, MayFind, rule_of, seeds_of};
+ghost use Rattle.result_writer.specs.Output.{IsClear};
+ghost use Rattle.reachability.specs.Record.{IsTraversed, IsFaithful, HasEnded, LooksUpReachable, merged_graph};
+ghost use Rattle.traverse_core.specs.Run.{HasLinks, MayFind, TellsIfSure, rule_of, seeds_of};
 ghost use Rattle.traverse_core.specs.State.{is_running, next_of, IsDry, MayClose};
+ghost use Rattle.traverse_core.specs.Order.{IsOrdered};
 ghost use Rattle.traverse_core.specs.Kept.{IsKept};
-ghost use Rattle.traverse_core.specs.Steps.{opened, restated, taken, settled, WritesOut, Closes, halted_by_memory};
+ghost use Rattle.traverse_core.specs.Steps.{Opens, DrawsOne, restated, taken, settled, WritesOut, Closes, halted_by_memory};
 
 mod judging;
 
@@ -31,8 +32,8 @@ use link_uri::Link;
 use outer_ports::Sink;
 use rdf_terms::{Memory, Seq};
 use reach_criteria::Criterion;
-use reach_terms::{Entry, Found, Record};
-use row_writer::{RowWriter, Written};
+use reachability::{Entry, Found, Record};
+use result_writer::{RowWriter, Written};
 use rows_core::TriplePattern;
 use std::alloc::Global;
 use std::marker::{Model, PhantomData};
@@ -67,8 +68,9 @@ impl<J: Job, S: Sink> Model for Traversal<J, S> {
 }
 
 impl<J: Job, S: Sink> Traversal<J, S> {
-    /// A traversal with all seeds queued, each link once, and the head pending. Without memory the
-    /// sink comes back as it was.
+    /// A traversal with all seeds queued, each link once, and the head pending; rows may wait already.
+    /// Without memory the sink comes back as it was.
+    #[tactic(auto, using(crate::proofs::Kept::opens_with, crate::proofs::Kept::opened_flies))]
     pub fn open(
         alloc: Global,
         query: Query,
@@ -77,13 +79,18 @@ impl<J: Job, S: Sink> Traversal<J, S> {
         limit: u64,
         out: S,
     ) -> Result<Traversal<J, S>, S>
-        requires own { AreLinks seeds.items }
+        requires valid_links { AreLinks seeds.items }
         requires query { query ≡ J.run.query }
         requires seeds { seeds.items ≡ J.run.seeds }
         requires criterion { criterion ≡ J.run.criterion }
         requires limit { limit ≡ J.run.limit }
         requires out { (S.content out ≡ J.run.content) × (S.faults out ≡ J.run.faults) }
-        ensures ok { IfOk result (λ t. t ≡ opened J.run) }
+        requires told { TellsIfSure J.run.fetch }
+        ensures ok { IfOk result (Opens J.run) }
+        ensures runs { IfOk result (λ t. IsTrue (is_running t)) }
+        ensures landed { IfOk result (λ t. flying t.table ≡ 0) }
+        ensures none { IfOk result (λ t. t.entries ≡ []) }
+        ensures out { IfOk result (λ t. (t.out.content ≡ S.content out) × (t.out.faults ≡ S.faults out)) }
         ensures err { IfErr result (λ s. s ≡ out) }
     {
         match prepare(alloc, &query, seeds.as_slice()) {
@@ -180,7 +187,7 @@ impl<J: Job, S: Sink> Traversal<J, S> {
     pub fn link(&self, number: u64) -> &Link
         requires { number < length self.now.table }
         ensures link { link_at self.now.table number ≡ Some result.now }
-        ensures own { IsLink result.now }
+        ensures valid_links { IsLink result.now }
     {
         self.table.get(number)
     }
@@ -243,13 +250,13 @@ impl<J: Job, S: Sink> Traversal<J, S> {
         self.in_flight -= 1;
     }
 
-    /// Draws the next triple of the log.
+    /// Draws the next triple of the log; rows may come to wait then.
+    #[tactic(auto, using(crate::proofs::RunningOn::draws_one))]
     pub fn draw(&mut self) -> Result<Drawn, Memory>
         requires { IsTrue (is_running self.old) }
         ensures dry { (result ≡ Ok Drawn.Dry) ↔ IsDry self.old }
         ensures none { result ≡ Ok Drawn.Dry → self.new ≡ self.old }
-        ensures one { result ≡ Ok Drawn.One → (self.old.drawn < length self.old.log)
-            × (self.new ≡ record self.old { drawn = self.old.drawn + 1 }) }
+        ensures one { result ≡ Ok Drawn.One → DrawsOne self.old self.new }
         ensures err { OnErr result (self.new ≡ self.old) }
     {
         if self.drawn == self.log.len() {
@@ -291,14 +298,15 @@ impl<J: Job, S: Sink> Traversal<J, S> {
         self.halted
     }
 
-    /// Closes: the answers over the log wait to be written, and the tail follows them.
+    /// Closes: what the rows so far lack of the answers over the log waits behind them to be
+    /// written, and the tail follows. It costs the evaluation of the query over the log.
     pub fn close(&mut self) -> Result<(), Memory>
         requires runs { IsTrue (is_running self.old) }
         requires may { MayClose J.run self.old }
         ensures ok { OnOk result (Closes J.run self.old self.new) }
         ensures err { OnErr result (self.new ≡ self.old) }
     {
-        let rows = answer_rows(self.alloc, &self.query, self.log.as_slice())?;
+        let rows = answer_rows(self.alloc, &self.query, &self.log)?;
         self.output.close(self.alloc, rows)?;
         Ok(())
     }
@@ -324,6 +332,7 @@ impl<J: Job, S: Sink> Traversal<J, S> {
         requires { flying self.table ≡ 0 }
         ensures trace { (result.trace.entries ≡ self.entries) × (result.trace.queued ≡ queued_links (marks self.table)) }
         ensures traversed { IsTraversed result.trace (seeds_of J.run) (rule_of J.run) J.run.limit }
+        ensures order { IsOrdered result.trace J.run.seeds (rule_of J.run) }
         ensures faithful { IfSome J.run.fetch.web (λ web. IsFaithful (outcome_of web J.run.body) result.trace) }
         ensures ended { IsTrue self.out.closed → HasEnded result.trace J.run.limit }
         // with nothing queued

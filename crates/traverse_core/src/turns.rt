@@ -4,7 +4,7 @@ ghost use Rattle.rdf_terms.specs.Lists.{IsIn};
 ghost use Rattle.link_uri.specs.declared.link.Link.{Link as link};
 ghost use Rattle.link_queue.specs.declared.state.LinkState.TheVariants.{InFlight};
 ghost use Rattle.link_queue.specs.Table.{link_at, state_at};
-ghost use Rattle.reach_terms.specs.declared.record.Found.{Found as found};
+ghost use Rattle.reachability.specs.declared.record.Found.{Found as found};
 ghost use Rattle.web_port.specs.Flights.{numbers};
 ghost use Rattle.web_port.specs.Port.{Stays};
 ghost use Rattle.traverse_core.specs.Run.{MayFind};
@@ -19,7 +19,7 @@ use crate::traversal::Traversal;
 use link_uri::Scheme;
 use outer_ports::Sink;
 use rdf_terms::Memory;
-use reach_terms::{Found, Outcome, Why};
+use reachability::{Found, Outcome, Why};
 use web_port::{Fetcher, Got, next_landed};
 
 // Starts a link that was taken; one that is not looked up for its scheme is settled at once.

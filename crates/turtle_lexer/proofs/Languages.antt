@@ -1,13 +1,13 @@
 -- The rules of each language with their automaton, and what follows for the token lists.
 use Rattle.std.proofs.Common.{◌≡◌, List, [], ◌∷◌, ℕ, drop, true, false, Option, Some, None, refl}
-use Rattle.text_rules.specs.declared.class.Class.{Class}
-use Rattle.text_rules.specs.declared.class.Class.TheVariants as classes
-use Rattle.text_rules.specs.Utf8.{symbols_of}
-use Rattle.text_rules.specs.Rules.{Never, allows}
-use Rattle.text_rules.proofs.Lexicon.{Lexicon}
-use Rattle.text_rules.proofs.Longest.{Decides}
-use Rattle.text_rules.proofs.Unique as unique
-use Rattle.text_rules.proofs.Existence.{has_list}
+use Rattle.terminals.specs.declared.class.Class.{Class}
+use Rattle.terminals.specs.declared.class.Class.TheVariants as classes
+use Rattle.terminals.specs.Utf8.{symbols_of}
+use Rattle.terminals.specs.Rules.{Never, allows}
+use Rattle.terminals.proofs.Lexicon.{Lexicon}
+use Rattle.terminals.proofs.Longest.{Decides}
+use Rattle.terminals.proofs.Unique as unique
+use Rattle.terminals.proofs.Existence.{has_list}
 use Rattle.turtle_lexer.specs.declared.dialect.Dialect.{Dialect}
 use Rattle.turtle_lexer.specs.declared.dialect.Dialect.TheVariants as dialects
 use Rattle.turtle_lexer.specs.declared.kind.TurtleKind.{TurtleKind}
@@ -18,9 +18,9 @@ use Rattle.turtle_lexer.specs.declared.state.State.TheVariants as at
 use Rattle.turtle_lexer.specs.Rules.{rule_in}
 use Rattle.turtle_lexer.specs.State.{stepped_in, kind_of, is_waiting}
 use Rattle.turtle_lexer.specs.Tokens.{token_of, is_last, skipped, TokensIn}
-use Rattle.turtle_lexer.proofs.Residual.{turtle_decides}
+use Rattle.turtle_lexer.proofs.Derivatives.{turtle_decides}
 use Rattle.turtle_lexer.proofs.NTriples.{ntriples_decides, ntriples_no_ill, ntriples_shade_back}
-use Rattle.turtle_lexer.proofs.Shades.{no_ill, shade, shade_back, shade_unfinished, is_dotted, waiting_shade}
+use Rattle.turtle_lexer.proofs.Lookahead.{no_ill, shade, shade_back, shade_unfinished, is_dotted, waiting_shade}
 
 pub decides_in : (d : Dialect) → Decides (stepped_in d) kind_of (rule_in d) at.Start
 decides_in dialects.Turtle = turtle_decides

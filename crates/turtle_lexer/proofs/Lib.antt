@@ -1,4 +1,4 @@
 pub mod Languages
 pub mod NTriples
-pub mod Residual
-pub mod Shades
+pub mod Derivatives
+pub mod Lookahead

@@ -1,24 +1,24 @@
 -- The automaton of N-Triples decides its rules: it is that of Turtle, but for a colon in a label.
 use Rattle.std.proofs.Common.{◌≡◌, ◌⊎◌, inl, inr, ℕ, zero, suc, List, [], ◌∷◌, Bool, true, false, Option, Some, None, refl, sym, ap, ◌∙◌}
-use Rattle.text_rules.specs.declared.class.Class.{Class}
-use Rattle.text_rules.specs.declared.class.Class.TheVariants as classes
-use Rattle.text_rules.specs.declared.groups.Quote.{Quote}
-use Rattle.text_rules.specs.declared.groups.Quote.TheVariants as quotes
-use Rattle.text_rules.specs.Groups.{hex_value}
-use Rattle.text_rules.specs.Utf8.{Symbol}
-use Rattle.text_rules.specs.Rules.{Rule, Never, may_end, after, allows, with_digit}
-use Rattle.text_rules.specs.Terminals.{is_iri_code, is_scalar}
-use Rattle.text_rules.specs.Scan.{IsLost}
-use Rattle.text_rules.proofs.Longest.{run, kind_in, Decides}
-use Rattle.text_rules.proofs.Walls.{scan_step, scan_end, lost_stuck}
+use Rattle.terminals.specs.declared.class.Class.{Class}
+use Rattle.terminals.specs.declared.class.Class.TheVariants as classes
+use Rattle.terminals.specs.declared.groups.Quote.{Quote}
+use Rattle.terminals.specs.declared.groups.Quote.TheVariants as quotes
+use Rattle.terminals.specs.Groups.{hex_value}
+use Rattle.terminals.specs.Utf8.{Symbol}
+use Rattle.terminals.specs.Rules.{Rule, Never, may_end, after, allows, with_digit}
+use Rattle.terminals.specs.Terminals.{is_iri_code, is_scalar}
+use Rattle.terminals.specs.Scan.{IsLost}
+use Rattle.terminals.proofs.Longest.{run, kind_in, Decides}
+use Rattle.terminals.proofs.Waits.{scan_step, scan_end, lost_stuck}
 use Rattle.turtle_lexer.specs.declared.kind.TurtleKind.{TurtleKind}
 use Rattle.turtle_lexer.specs.declared.kind.TurtleKind.TheVariants as kinds
 use Rattle.turtle_lexer.specs.declared.state.State.{State}
 use Rattle.turtle_lexer.specs.declared.state.State.TheVariants as at
 use Rattle.turtle_lexer.specs.Rules.{wide_label, ntriples_rule_of}
 use Rattle.turtle_lexer.specs.State.{when, digit_step, stepped, ntriples_stepped, kind_of, begin, caret_step, number_step, word_step, prefix_step, prefix_dot_step, first_local_step, local_step, label_step, tag_step, iri_step, line_step, long_step, slash_step, escape_step}
-use Rattle.turtle_lexer.proofs.Residual.{after_all, path, rest, rest_of, is_kind, is_read, derives, ends, kind_is, is_kind_self, all_read}
-use Rattle.turtle_lexer.proofs.Shades.{no_ill, shade, shade_back}
+use Rattle.turtle_lexer.proofs.Derivatives.{after_all, path, rest, rest_of, is_kind, is_read, derives, ends, kind_is, is_kind_self, all_read}
+use Rattle.turtle_lexer.proofs.Lookahead.{no_ill, shade, shade_back}
 
 -- a step is that of Turtle, or a colon goes on with a label that ends there in Turtle
 widened : (s : State) (x : Class) → (ntriples_stepped s x ≡ stepped s x) ⊎ ((stepped s x ≡ None) × (ntriples_stepped s x ≡ Some at.Label))

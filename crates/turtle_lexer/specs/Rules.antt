@@ -1,10 +1,10 @@
 -- The rules for the tokens of Turtle, after the terminals of RDF 1.1 Turtle, section 6.5, and of N-Triples.
 use Rattle.std.specs.Prelude.{Bool, true, false}
-use Rattle.text_rules.specs.declared.class.Class.{Class}
-use Rattle.text_rules.specs.declared.class.Class.TheVariants as classes
-use Rattle.text_rules.specs.Groups.{is_sign, is_caret, is_underscore, is_colon, is_local_first, is_local}
-use Rattle.text_rules.specs.Rules.{Rule, Never, One, Then, Either, maybe}
-use Rattle.text_rules.specs.Terminals.{with_dots, iri_ref, name, blank_label, language_tag, quoted, integer, decimal, double, word}
+use Rattle.terminals.specs.declared.class.Class.{Class}
+use Rattle.terminals.specs.declared.class.Class.TheVariants as classes
+use Rattle.terminals.specs.Groups.{is_sign, is_caret, is_underscore, is_colon, is_local_first, is_local}
+use Rattle.terminals.specs.Rules.{Rule, Never, One, Then, Either, maybe}
+use Rattle.terminals.specs.Terminals.{with_dots, iri_ref, name, blank_label, language_tag, quoted, integer, decimal, double, word}
 use Rattle.turtle_lexer.specs.declared.dialect.Dialect.{Dialect}
 use Rattle.turtle_lexer.specs.declared.dialect.Dialect.TheVariants as dialects
 use Rattle.turtle_lexer.specs.declared.kind.TurtleKind.{TurtleKind}

@@ -2,8 +2,8 @@
 use Rattle.std.specs.Prelude.{◌≡◌, ℕ, ◌<◌, ◌≤◌, List, [], ◌∷◌, ◌++◌, All, drop, slice_range, true, false, Bool, nat_eq, if◌then◌else◌}
 use Rattle.std.specs.List.{starts_with}
 use Rattle.std.specs.Str.{IsUtf8}
-use Rattle.text_rules.specs.Utf8.{Symbol, symbols_of}
-use Rattle.text_rules.specs.Tokens.{Lexes}
+use Rattle.terminals.specs.Utf8.{Symbol, symbols_of}
+use Rattle.terminals.specs.Tokens.{Lexes}
 use Rattle.turtle_lexer.specs.declared.dialect.Dialect.{Dialect}
 use Rattle.turtle_lexer.specs.declared.dialect.Dialect.TheVariants as dialects
 use Rattle.turtle_lexer.specs.declared.kind.TurtleKind.{TurtleKind}
@@ -12,7 +12,7 @@ use Rattle.turtle_lexer.specs.declared.token.Token.{Token}
 use Rattle.turtle_lexer.specs.declared.lexing.Next.{Next}
 use Rattle.turtle_lexer.specs.declared.lexing.Next.TheVariants as nexts
 use Rattle.turtle_lexer.specs.Rules.{rule_in}
-use Rattle.turtle_lexer.specs.State.{IsNameless}
+use Rattle.turtle_lexer.specs.State.{HasNoPrefixedName}
 
 -- a token of its kind and its two ends
 abbrev pub token_of : TurtleKind → ℕ → ℕ → Token
@@ -80,7 +80,7 @@ abbrev pub HasPlain : List ℕ → Next → Type 0
 HasPlain bytes (nexts.Token t) = IsPlain bytes t
 HasPlain bytes (nexts.Last t) = IsPlain bytes t
 
--- no name's colon comes behind it up to the wall
-abbrev pub IsNamelessBehind : Dialect → ℕ → List ℕ → Next → Type 0
-IsNamelessBehind d wall bytes (nexts.Token t) = IsNameless d wall t.to (symbols_of (drop t.to bytes))
-IsNamelessBehind d wall bytes (nexts.Last t) = Unit {0}
+-- no name's colon comes behind it up to `no_colon_before`
+abbrev pub HasNoPrefixedNameBehind : Dialect → ℕ → List ℕ → Next → Type 0
+HasNoPrefixedNameBehind d no_colon_before bytes (nexts.Token t) = HasNoPrefixedName d no_colon_before t.to (symbols_of (drop t.to bytes))
+HasNoPrefixedNameBehind d no_colon_before bytes (nexts.Last t) = Unit {0}

@@ -1,8 +1,8 @@
 //! The list of all tokens.
 
 ghost use Rattle.std.specs.Prelude.{◌≡◌, ◌≤◌, length, drop, All, IfOk};
-ghost use Rattle.text_rules.specs.Utf8.{symbols_of};
-ghost use Rattle.turtle_lexer.specs.State.{IsNameless};
+ghost use Rattle.terminals.specs.Utf8.{symbols_of};
+ghost use Rattle.turtle_lexer.specs.State.{HasNoPrefixedName};
 ghost use Rattle.turtle_lexer.specs.Tokens as spec;
 
 use crate::dialect::Dialect;
@@ -11,7 +11,7 @@ use crate::scan::longest;
 use crate::token::Token;
 use rdf_terms::Memory;
 use std::alloc::Global;
-use text_rules::{Gap, gap_at};
+use terminals::{Gap, gap_at};
 
 /// What stands at a place, behind white space and comments.
 #[derive(Clone, Copy)]
@@ -33,22 +33,25 @@ fn last(kind: TurtleKind, at: usize) -> Next
     })
 }
 
-// The token that follows a place, and the new wall.
-fn read(dialect: Dialect, bytes: &[u8], from: usize, wall: usize) -> (Next, usize)
+// The token that follows a place, and the new `no_colon_before`.
+fn read(dialect: Dialect, bytes: &[u8], from: usize, no_colon_before: usize) -> (Next, usize)
     requires place { from ≤ length bytes.now }
-    requires nameless { IsNameless dialect wall from (symbols_of (drop from bytes.now)) }
+    requires nameless { HasNoPrefixedName dialect no_colon_before from (symbols_of (drop from bytes.now)) }
     ensures next { spec.IsNext dialect bytes.now from result.0 }
     ensures within { spec.IsWithin from (length bytes.now) result.0 }
     ensures placed { spec.IsPlaced result.0 }
     ensures plain { spec.HasPlain bytes.now result.0 }
-    ensures nameless { spec.IsNamelessBehind dialect result.1 bytes.now result.0 }
+    ensures nameless { spec.HasNoPrefixedNameBehind dialect result.1 bytes.now result.0 }
 {
     match gap_at(bytes, from) {
-        Gap::End(at) => (last(TurtleKind::End, at), wall),
-        Gap::Ill(at) => (last(TurtleKind::Bad, at), wall),
-        Gap::Token(at) => match longest(dialect, bytes, at, wall) {
-            (Some((kind, to)), wall) => (Next::Token(Token { kind, from: at, to }), wall),
-            (None, wall) => (last(TurtleKind::Bad, at), wall),
+        Gap::End(at) => (last(TurtleKind::End, at), no_colon_before),
+        Gap::Ill(at) => (last(TurtleKind::Bad, at), no_colon_before),
+        Gap::Token(at) => match longest(dialect, bytes, at, no_colon_before) {
+            (Some((kind, to)), no_colon_before) => (
+                Next::Token(Token { kind, from: at, to }),
+                no_colon_before,
+            ),
+            (None, no_colon_before) => (last(TurtleKind::Bad, at), no_colon_before),
         },
     }
 }
@@ -73,14 +76,14 @@ fn lex(alloc: Global, dialect: Dialect, bytes: &[u8]) -> Result<Vec<Token>, Memo
 {
     let mut tokens = Vec::new(alloc);
     let mut at = skipped(bytes);
-    let mut wall = at;
+    let mut no_colon_before = at;
     loop {
-        let (next, next_wall) = read(dialect, bytes, at, wall);
+        let (next, next_no_colon_before) = read(dialect, bytes, at, no_colon_before);
         match next {
             Next::Token(token) => {
                 tokens.push(token)?;
                 at = token.to;
-                wall = next_wall;
+                no_colon_before = next_no_colon_before;
             }
             Next::Last(token) => {
                 tokens.push(token)?;

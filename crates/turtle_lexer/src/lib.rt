@@ -3,7 +3,7 @@
 //! Promise: `lex_turtle` and `lex_ntriples` give the token list of the bytes, each token the longest
 //! text that a rule allows at its place. The rules are in `specs/Rules.antt`, the list is in
 //! `specs/Tokens.antt`, and each text has one (`one_token_list`, `one_ntriples_token_list`).
-//! Not here: what tokens stand for (`token_texts`), and their grammars (`turtle_reader`,
+//! Not here: what tokens stand for (`terminals`), and their grammars (`turtle_reader`,
 //! `doc_reader`).
 #![tactic(auto)]
 

@@ -1,12 +1,12 @@
 //! The automaton of all kinds of tokens at once.
 
 ghost use Rattle.std.specs.Prelude.{◌≡◌};
-ghost use Rattle.text_rules.specs.Groups as group;
+ghost use Rattle.terminals.specs.Groups as group;
 ghost use Rattle.turtle_lexer.specs.State as spec;
 
 use crate::dialect::Dialect;
 use crate::kind::TurtleKind;
-use text_rules::{Class, Quote, is_iri_code, is_scalar, with_digit};
+use terminals::{Class, Quote, is_iri_code, is_scalar, with_digit};
 
 /// What has been read of a token. Inside an escape by number: how many digits are wanted behind
 /// the next one, and the number so far.

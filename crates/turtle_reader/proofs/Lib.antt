@@ -1,3 +1,4 @@
 pub mod Answering
 pub mod Lists
 pub mod Whole
+pub mod Loops

@@ -2,27 +2,27 @@
 use Rattle.std.proofs.Common.{◌≡◌, ℕ, ◌≤◌, List, arith, rules, subst, Option, Some, None, Bool, true, false}
 use Rattle.rdf_terms.specs.declared.term.Term.{Term}
 use Rattle.rdf_terms.specs.declared.triple.Triple.{Triple}
-use Rattle.grammar_engine.specs.Engine.{Fine, Takes, Reads}
-use Rattle.grammar_engine.proofs.Reading.{one, opened, parse_reads}
-use Rattle.turtle_scan.specs.declared.fault.Fault.{Fault}
-use Rattle.turtle_scan.specs.declared.kind.Kind.{Kind}
-use Rattle.turtle_scan.specs.declared.kind.Kind.TheVariants as kinds
-use Rattle.turtle_scan.specs.declared.kind.Token.{Token}
-use Rattle.turtle_reader.specs.Grammar.{Part, TurtleDoc, Statement, Triples, BlankSubject, PredicateObjectList, VerbObjects, MorePredicates, ObjectList, MoreObjects, Object, BlankObject, RDFLiteral, Collection, Items, Item, MoreItems, turtle, rank, takes, body, E, reads, within, kind_of, Value, G, need_by, choose, statement_by, triples_by, verb_by, object_by, datatype_by, literal_by, collection_of, more_items_of, is_end, is_dot, is_comma, is_semicolon, is_shut_square, is_shut_paren, is_namespace, is_iri_ref, begins_verb}
+use Rattle.grammar_model.specs.Parsers.{Fine, Takes, Reads}
+use Rattle.grammar_model.proofs.Reading.{one, opened, parse_reads}
+use Rattle.turtle_reader.specs.declared.token_fault.Fault.{Fault}
+use Rattle.turtle_reader.specs.declared.kind.Kind.{Kind}
+use Rattle.turtle_reader.specs.declared.kind.Kind.TheVariants as kinds
+use Rattle.turtle_reader.specs.declared.kind.Token.{Token}
+use Rattle.turtle_reader.specs.Grammar.{Nonterminal, TurtleDoc, Statement, Triples, BlankSubject, PredicateObjectList, VerbObjects, MorePredicates, ObjectList, MoreObjects, Object, BlankObject, RDFLiteral, Collection, Items, Item, MoreItems, turtle, rank, takes, body, E, reads, within, kind_of, Value, G, need_by, choose, statement_by, triples_by, verb_by, object_by, datatype_by, literal_by, collection_of, more_items_of, is_end, is_dot, is_comma, is_semicolon, is_shut_square, is_shut_paren, is_namespace, is_iri_ref, begins_verb}
 
-small : (q : Part) → rank q ≤ 4
+small : (q : Nonterminal) → rank q ≤ 4
 small (TurtleDoc before) = omega arith
 small q = omega arith
 
 module _ (doc : List ℕ) (stop : Fault) where
-  abbrev F : (m : Part) → ℕ → G (Value m) → Type 0
+  abbrev F : (m : Nonterminal) → ℕ → G (Value m) → Type 0
   F m r p = Fine (turtle doc stop) rank takes 4 m r p
 
-  needed : (m : Part) (r : ℕ) (b : Bool) (p : G (Value m)) → F m 4 p → F m r (need_by b p)
+  needed : (m : Nonterminal) (r : ℕ) (b : Bool) (p : G (Value m)) → F m 4 p → F m r (need_by b p)
   needed m r true p f = f
   needed m r false p f = tt
 
-  chosen : (m : Part) (r : ℕ) (b : Bool) (p q : G (Value m)) → F m r p → F m r q → F m r (choose b p q)
+  chosen : (m : Nonterminal) (r : ℕ) (b : Bool) (p q : G (Value m)) → F m r p → F m r q → F m r (choose b p q)
   chosen m r true p q f g = f
   chosen m r false p q f g = g
 
@@ -61,7 +61,7 @@ module _ (doc : List ℕ) (stop : Fault) where
   more_items_fine cell before None = tt
   more_items_fine cell before (Some t) = chosen (MoreItems cell before) 3 (is_shut_paren t.kind) _ _ tt (omega arith, λ ts. tt)
 
-  abbrev T : (m : Part) → G (Value m) → Type 0
+  abbrev T : (m : Nonterminal) → G (Value m) → Type 0
   T m p = Takes (turtle doc stop) rank takes 4 m p
 
   statement_takes : (before : List Triple) (k : Kind) → T (Statement before) (statement_by doc before k)
@@ -76,14 +76,14 @@ module _ (doc : List ℕ) (stop : Fault) where
   object_takes before kinds.Dot = tt
   object_takes before k = tt
 
-  all_take : (q : Part) → takes q ≡ true → T q (body doc q)
+  all_take : (q : Nonterminal) → takes q ≡ true → T q (body doc q)
   all_take (Statement before) e = λ x. statement_takes before (kind_of x)
   all_take (Triples before) e = λ x. triples_takes before (kind_of x)
   all_take (Object before) e = λ x. object_takes before (kind_of x)
   all_take (Item cell before) e = tt
   all_take q e = absurd cc
 
-  fine : (q : Part) → F q (rank q) (body doc q)
+  fine : (q : Nonterminal) → F q (rank q) (body doc q)
   fine (TurtleDoc before) = λ x. chosen (TurtleDoc before) 2 (is_end (kind_of x)) _ _ tt (search rules)
   fine (Statement before) = λ x. statement_fine before (kind_of x)
   fine (Triples before) = λ x. triples_fine before (kind_of x)
@@ -106,16 +106,16 @@ module _ (doc : List ℕ) (stop : Fault) where
   fine (Item cell before) = search rules
   fine (MoreItems cell before) = λ x. more_items_fine cell before x
 
-  pub part_is : (q : Part) (ts : List Token) → reads doc stop q ts ≡ within doc stop q ts
+  pub part_is : (q : Nonterminal) (ts : List Token) → reads doc stop q ts ≡ within doc stop q ts
   unfolding reads
   part_is q ts = opened (turtle doc stop) rank takes 4 all_take small fine q ts
 
-  pub reads_it : (q : Part) (ts : List Token) → Reads (turtle doc stop) q (body doc q) ts (reads doc stop q ts)
+  pub reads_it : (q : Nonterminal) (ts : List Token) → Reads (turtle doc stop) q (body doc q) ts (reads doc stop q ts)
   unfolding reads
   reads_it q ts = parse_reads (turtle doc stop) rank takes 4 all_take small fine q ts
 
-  pub only_one : (q : Part) (ts : List Token) (a b : E q) → Reads (turtle doc stop) q (body doc q) ts a → Reads (turtle doc stop) q (body doc q) ts b → a ≡ b
+  pub only_one : (q : Nonterminal) (ts : List Token) (a b : E q) → Reads (turtle doc stop) q (body doc q) ts a → Reads (turtle doc stop) q (body doc q) ts b → a ≡ b
   only_one q ts a b r s = one (turtle doc stop) q (body doc q) ts a b r s
 
-  pub is_read : (q : Part) (ts : List Token) (o : E q) → reads doc stop q ts ≡ o → Reads (turtle doc stop) q (body doc q) ts o
+  pub is_read : (q : Nonterminal) (ts : List Token) (o : E q) → reads doc stop q ts ≡ o → Reads (turtle doc stop) q (body doc q) ts o
   is_read q ts o e = subst (λ (x : E q). Reads (turtle doc stop) q (body doc q) ts x) e (reads_it q ts)

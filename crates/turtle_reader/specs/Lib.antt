@@ -1,3 +1,5 @@
 pub mod Grammar
 pub mod Reading
 pub mod Vocabulary
+pub mod Words
+pub mod Resolving

@@ -3,12 +3,13 @@
 ghost use Rattle.std.specs.Prelude.{◌≡◌, ◌<◌, [], length, IfOk};
 ghost use Rattle.turtle_reader.specs.Grammar.{Gives, reads, Statement, TurtleDoc};
 
+use crate::kind::{Kind, Token};
 use crate::next::{first, is_at_end, misfit, need_dot, need_iri_ref, need_namespace};
 use crate::setting::Setting;
+use crate::token_fault::ResolveError;
 use crate::triples::triples;
 use rdf_terms::Triple;
 use std::alloc::Global;
-use turtle_scan::{Kind, ScanError, Token};
 
 /// One statement; its triples are added to `out`. What a declaration declares is in the tokens that
 /// follow.
@@ -17,7 +18,7 @@ fn statement<'t>(
     setting: &Setting,
     out: &mut Vec<Triple>,
     tokens: &'t [Token],
-) -> Result<&'t [Token], ScanError>
+) -> Result<&'t [Token], ResolveError>
     ensures value { Gives (λ x. (out.new.items, x.now)) result (reads setting.now.doc setting.now.stop (Statement out.old.items) tokens.now) }
     ensures fewer { IfOk result (λ x. length x.now < length tokens.now) }
 {
@@ -53,7 +54,7 @@ pub fn document<'t>(
     alloc: Global,
     setting: &Setting,
     tokens: &'t [Token],
-) -> Result<(Vec<Triple>, &'t [Token]), ScanError>
+) -> Result<(Vec<Triple>, &'t [Token]), ResolveError>
     ensures { Gives (λ x. (x.0.items, x.1.now)) result (reads setting.now.doc setting.now.stop (TurtleDoc []) tokens.now) }
 {
     let mut out = Vec::new(alloc);

@@ -1,6 +1,6 @@
 ghost use Rattle.std.specs.Prelude.{◌≡◌, ℕ, List, Result};
 ghost use Rattle.rdf_terms.specs.declared.triple.Triple.{Triple};
-ghost use Rattle.turtle_scan.specs.declared.fault.Fault.{Fault};
+ghost use Rattle.turtle_reader.specs.declared.token_fault.Fault.{Fault};
 ghost use Rattle.turtle_reader.specs.Reading.{IsTurtle, turtle_reading};
 
 /// A text has exactly one answer: its triples, or its fault with its place.

@@ -1,12 +1,12 @@
 //! The next token.
-
 ghost use Rattle.std.specs.Prelude.{◌≡◌, ◌∷◌, option_map, IsTrue};
-ghost use Rattle.grammar_engine.specs.Engine.{first_of_list};
+ghost use Rattle.grammar_model.specs.Parsers.{first_of_list};
 ghost use Rattle.turtle_reader.specs.Grammar as grammar;
 ghost use Rattle.turtle_reader.specs.Grammar.{FirstIs, Behind, Needed, kind_of, fault_of, rest_of, is_comma, is_dot, is_end, is_iri_ref, is_namespace, is_semicolon, is_shut_paren, is_shut_square};
-ghost use Rattle.turtle_scan.specs.declared.fault.ScanError.{ScanError};
+ghost use Rattle.turtle_reader.specs.declared.token_fault.ResolveError.{ResolveError};
 
-use turtle_scan::{Fault, Kind, ScanError, Token};
+use crate::kind::{Kind, Token};
+use crate::token_fault::{Fault, ResolveError};
 
 pub fn first(tokens: &[Token]) -> Option<(&Token, &[Token])>
     ensures { FirstIs tokens.now (option_map (λ x. (x.0.now, x.1.now)) result) }
@@ -18,12 +18,12 @@ pub fn first(tokens: &[Token]) -> Option<(&Token, &[Token])>
 }
 
 /// The fault where the first of the tokens does not fit.
-pub fn misfit(stop: Fault, tokens: &[Token]) -> ScanError
-    ensures { result ≡ ScanError.Fault (fault_of stop tokens.now) }
+pub fn misfit(stop: Fault, tokens: &[Token]) -> ResolveError
+    ensures { result ≡ ResolveError.Fault (fault_of stop tokens.now) }
 {
     match tokens {
-        [] => ScanError::Fault(stop),
-        [token, ..] => ScanError::Fault(Fault::Syntax(token.from)),
+        [] => ResolveError::Fault(stop),
+        [token, ..] => ResolveError::Fault(Fault::Syntax(token.from)),
     }
 }
 
@@ -83,7 +83,7 @@ pub fn behind_shut_square(tokens: &[Token]) -> Option<&[Token]>
     }
 }
 
-pub fn need_dot(stop: Fault, tokens: &[Token]) -> Result<&[Token], ScanError>
+pub fn need_dot(stop: Fault, tokens: &[Token]) -> Result<&[Token], ResolveError>
     ensures { Needed stop is_dot tokens.now (rest_of (λ r. r.now) result) }
 {
     match tokens {
@@ -95,7 +95,7 @@ pub fn need_dot(stop: Fault, tokens: &[Token]) -> Result<&[Token], ScanError>
     }
 }
 
-pub fn need_shut_square(stop: Fault, tokens: &[Token]) -> Result<&[Token], ScanError>
+pub fn need_shut_square(stop: Fault, tokens: &[Token]) -> Result<&[Token], ResolveError>
     ensures { Needed stop is_shut_square tokens.now (rest_of (λ r. r.now) result) }
 {
     match tokens {
@@ -107,7 +107,7 @@ pub fn need_shut_square(stop: Fault, tokens: &[Token]) -> Result<&[Token], ScanE
     }
 }
 
-pub fn need_namespace(stop: Fault, tokens: &[Token]) -> Result<&[Token], ScanError>
+pub fn need_namespace(stop: Fault, tokens: &[Token]) -> Result<&[Token], ResolveError>
     ensures { Needed stop is_namespace tokens.now (rest_of (λ r. r.now) result) }
 {
     match tokens {
@@ -119,7 +119,7 @@ pub fn need_namespace(stop: Fault, tokens: &[Token]) -> Result<&[Token], ScanErr
     }
 }
 
-pub fn need_iri_ref(stop: Fault, tokens: &[Token]) -> Result<&[Token], ScanError>
+pub fn need_iri_ref(stop: Fault, tokens: &[Token]) -> Result<&[Token], ResolveError>
     ensures { Needed stop is_iri_ref tokens.now (rest_of (λ r. r.now) result) }
 {
     match tokens {

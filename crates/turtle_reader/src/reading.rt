@@ -6,19 +6,20 @@ ghost use Rattle.turtle_reader.specs.Reading.{IsTurtle, IsFault, turtle_reading}
 
 use crate::document::document;
 use crate::fault::ReadFault;
+use crate::resolving::resolve;
 use crate::setting::Setting;
+use crate::token_fault::{Fault, ResolveError};
 use rdf_terms::Triple;
 use std::alloc::Global;
 use turtle_lexer::lex_turtle;
-use turtle_scan::{Fault, ScanError, scan};
 
-fn reported(error: ScanError) -> ReadFault
+fn reported(error: ResolveError) -> ReadFault
     ensures { result ≡ spec.reported error }
 {
     match error {
-        ScanError::Memory => ReadFault::Memory,
-        ScanError::Fault(Fault::Syntax(at)) => ReadFault::Syntax { at },
-        ScanError::Fault(Fault::Deep(at)) => ReadFault::Deep { at },
+        ResolveError::Memory => ReadFault::Memory,
+        ResolveError::Fault(Fault::Syntax(at)) => ReadFault::Syntax { at },
+        ResolveError::Fault(Fault::Deep(at)) => ReadFault::Deep { at },
     }
 }
 
@@ -40,9 +41,9 @@ pub fn read_turtle(
     ensures fault_reading { IfErr result (λ e. IsFault e (λ x. turtle_reading doc.now base.now bytes.now ≡ Err x)) }
 {
     let lexed = lex_turtle(alloc, bytes)?;
-    let scanned = scan(alloc, base, bytes, lexed.as_slice())?;
-    let setting = Setting::new(alloc, doc, scanned.stop)?;
-    match document(alloc, &setting, scanned.tokens.as_slice()) {
+    let resolved = resolve(alloc, base, bytes, lexed.as_slice())?;
+    let setting = Setting::new(alloc, doc, resolved.stop)?;
+    match document(alloc, &setting, resolved.tokens.as_slice()) {
         Ok((triples, _)) => Ok(triples),
         Err(error) => Err(reported(error)),
     }

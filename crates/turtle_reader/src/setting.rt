@@ -5,9 +5,9 @@ ghost use Rattle.std.specs.Prelude.{◌≡◌, None, Some, IfOk};
 ghost use Rattle.rdf_terms.specs.declared.term.Term.{Term};
 ghost use Rattle.turtle_reader.specs.Vocabulary as vocabulary;
 
+use crate::token_fault::Fault;
 use rdf_terms::{Memory, Term, TextBuf};
 use std::alloc::Global;
-use turtle_scan::Fault;
 
 const RDF_TYPE: &str = "http://www.w3.org/1999/02/22-rdf-syntax-ns#type";
 

@@ -6,13 +6,14 @@ ghost use Rattle.turtle_reader.specs.Grammar as grammar;
 ghost use Rattle.turtle_reader.specs.Grammar.{Gives, reads, Triples, BlankSubject, PredicateObjectList, VerbObjects, ObjectList, Object, BlankObject, RDFLiteral, Collection, Items, Item};
 ghost use Rattle.turtle_reader.specs.Vocabulary as vocabulary;
 
+use crate::kind::{Kind, Token};
 use crate::next::{
     begins_verb, behind_comma, behind_semicolon, behind_shut_square, first, misfit,
     need_shut_square,
 };
 use crate::setting::{Setting, iri, typed};
+use crate::token_fault::ResolveError;
 use rdf_terms::{Memory, Term, TextBuf, Triple};
-use turtle_scan::{Kind, ScanError, Token};
 
 fn push(out: &mut Vec<Triple>, s: &Term, p: Term, o: Term) -> Result<(), Memory>
     ensures { OnOk result (out.new.items ≡ out.old.items ++ grammar.triple s.now p o ∷ []) }
@@ -27,7 +28,7 @@ pub fn triples<'t>(
     setting: &Setting,
     out: &mut Vec<Triple>,
     tokens: &'t [Token],
-) -> Result<&'t [Token], ScanError>
+) -> Result<&'t [Token], ResolveError>
     ensures value { Gives (λ x. (out.new.items, x.now)) result (reads setting.now.doc setting.now.stop (Triples out.old.items) tokens.now) }
     ensures fewer { IfOk result (λ x. length x.now < length tokens.now) }
 {
@@ -53,7 +54,7 @@ fn blank_subject<'t>(
     out: &mut Vec<Triple>,
     n: u64,
     tokens: &'t [Token],
-) -> Result<&'t [Token], ScanError>
+) -> Result<&'t [Token], ResolveError>
     ensures value { Gives (λ x. (out.new.items, x.now)) result (reads setting.now.doc setting.now.stop (BlankSubject n out.old.items) tokens.now) }
     ensures fewer { IfOk result (λ x. length x.now < length tokens.now) }
 {
@@ -78,7 +79,7 @@ fn predicate_object_list<'t>(
     out: &mut Vec<Triple>,
     s: &Term,
     tokens: &'t [Token],
-) -> Result<&'t [Token], ScanError>
+) -> Result<&'t [Token], ResolveError>
     ensures value { Gives (λ x. (out.new.items, x.now)) result (reads setting.now.doc setting.now.stop (PredicateObjectList s.now out.old.items) tokens.now) }
     ensures fewer { IfOk result (λ x. length x.now < length tokens.now) }
 {
@@ -101,7 +102,7 @@ fn verb_objects<'t>(
     out: &mut Vec<Triple>,
     s: &Term,
     tokens: &'t [Token],
-) -> Result<&'t [Token], ScanError>
+) -> Result<&'t [Token], ResolveError>
     ensures value { Gives (λ x. (out.new.items, x.now)) result (reads setting.now.doc setting.now.stop (VerbObjects s.now out.old.items) tokens.now) }
     ensures fewer { IfOk result (λ x. length x.now < length tokens.now) }
 {
@@ -123,7 +124,7 @@ fn object_list<'t>(
     s: &Term,
     p: &Term,
     tokens: &'t [Token],
-) -> Result<&'t [Token], ScanError>
+) -> Result<&'t [Token], ResolveError>
     ensures value { Gives (λ x. (out.new.items, x.now)) result (reads setting.now.doc setting.now.stop (ObjectList s.now p.now out.old.items) tokens.now) }
     ensures fewer { IfOk result (λ x. length x.now < length tokens.now) }
 {
@@ -143,7 +144,7 @@ fn object<'t>(
     setting: &Setting,
     out: &mut Vec<Triple>,
     tokens: &'t [Token],
-) -> Result<(Term, &'t [Token]), ScanError>
+) -> Result<(Term, &'t [Token]), ResolveError>
     ensures value { Gives (λ x. ((out.new.items, x.0), x.1.now)) result (reads setting.now.doc setting.now.stop (Object out.old.items) tokens.now) }
     ensures fewer { IfOk result (λ x. length x.1.now < length tokens.now) }
 {
@@ -172,7 +173,7 @@ fn blank_object<'t>(
     out: &mut Vec<Triple>,
     n: u64,
     tokens: &'t [Token],
-) -> Result<&'t [Token], ScanError>
+) -> Result<&'t [Token], ResolveError>
     ensures value { Gives (λ x. (out.new.items, x.now)) result (reads setting.now.doc setting.now.stop (BlankObject n out.old.items) tokens.now) }
     ensures fewer { IfOk result (λ x. length x.now < length tokens.now) }
 {
@@ -191,7 +192,7 @@ fn literal<'t>(
     setting: &Setting,
     lexical: &TextBuf,
     tokens: &'t [Token],
-) -> Result<(Term, &'t [Token]), ScanError>
+) -> Result<(Term, &'t [Token]), ResolveError>
     ensures value { Gives (λ x. (x.0, x.1.now)) result (reads setting.now.doc setting.now.stop (RDFLiteral lexical.now) tokens.now) }
     ensures fewer { IfOk result (λ x. length x.1.now ≤ length tokens.now) }
 {
@@ -210,7 +211,7 @@ fn typed_literal<'t>(
     setting: &Setting,
     lexical: &TextBuf,
     tokens: &'t [Token],
-) -> Result<(Term, &'t [Token]), ScanError>
+) -> Result<(Term, &'t [Token]), ResolveError>
     ensures value { Gives (λ x. (x.0, x.1.now)) result (grammar.datatype_read setting.now.doc setting.now.stop lexical.now tokens.now) }
     ensures fewer { IfOk result (λ x. length x.1.now ≤ length tokens.now) }
 {
@@ -230,7 +231,7 @@ fn collection<'t>(
     setting: &Setting,
     out: &mut Vec<Triple>,
     tokens: &'t [Token],
-) -> Result<(Term, &'t [Token]), ScanError>
+) -> Result<(Term, &'t [Token]), ResolveError>
     ensures value { Gives (λ x. ((out.new.items, x.0), x.1.now)) result (reads setting.now.doc setting.now.stop (Collection out.old.items) tokens.now) }
     ensures fewer { IfOk result (λ x. length x.1.now < length tokens.now) }
 {
@@ -262,7 +263,7 @@ fn items<'t>(
     out: &mut Vec<Triple>,
     first_cell: u64,
     tokens: &'t [Token],
-) -> Result<&'t [Token], ScanError>
+) -> Result<&'t [Token], ResolveError>
     ensures value { Gives (λ x. (out.new.items, x.now)) result (reads setting.now.doc setting.now.stop (Items first_cell out.old.items) tokens.now) }
     ensures fewer { IfOk result (λ x. length x.now < length tokens.now) }
 {
@@ -291,7 +292,7 @@ fn item<'t>(
     out: &mut Vec<Triple>,
     cell: u64,
     tokens: &'t [Token],
-) -> Result<&'t [Token], ScanError>
+) -> Result<&'t [Token], ResolveError>
     ensures value { Gives (λ x. (out.new.items, x.now)) result (reads setting.now.doc setting.now.stop (Item cell out.old.items) tokens.now) }
     ensures fewer { IfOk result (λ x. length x.now < length tokens.now) }
 {

@@ -86,8 +86,8 @@ is_judged_as Decimal = true
 is_judged_as Boolean = true
 is_judged_as Other = false
 
-unfoldable pub is_judged : List ℕ → Bool
-is_judged datatype = is_judged_as (datatype_of datatype)
+unfoldable pub has_value_space : List ℕ → Bool
+has_value_space datatype = is_judged_as (datatype_of datatype)
 
 -- a sum is of an integer type exactly where both numbers are
 abbrev pub sum_of : Number → Number → Option Number

@@ -11,5 +11,5 @@ mod literals;
 mod numbers;
 mod slices;
 
-pub use crate::literals::{boolean_of, is_judged, number_of, well_formed};
+pub use crate::literals::{boolean_of, has_value_space, number_of, well_formed};
 pub use crate::numbers::{Number, add, compare, sub};

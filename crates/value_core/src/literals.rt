@@ -120,9 +120,9 @@ pub fn well_formed(lexical: &str, datatype: &str) -> bool
 
 /// Whether the datatype is one whose forms are judged: an integer type, `xsd:decimal` or
 /// `xsd:boolean`.
-#[tactic(auto, unfolding(crate::specs::Numbers::is_judged))]
-pub fn is_judged(datatype: &str) -> bool
-    ensures { result ≡ spec.is_judged datatype.now }
+#[tactic(auto, unfolding(crate::specs::Numbers::has_value_space))]
+pub fn has_value_space(datatype: &str) -> bool
+    ensures { result ≡ spec.has_value_space datatype.now }
 {
     !matches!(datatype_of(datatype), Datatype::Other)
 }

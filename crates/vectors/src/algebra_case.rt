@@ -22,8 +22,7 @@
 use crate::cases::bytes;
 use algebra_core::{Algebra, Key, Query};
 use expr_eval::{CompareOp, Expr, Function, Sign};
-use items_core::{Boxed, Items};
-use rdf_terms::{Memory, Seq, Term, TextBuf, Triple};
+use rdf_terms::{Boxed, Memory, Seq, Term, TextBuf, Triple};
 use rows_core::{Spot, TriplePattern};
 use std::alloc::{AllocError, AllocFailed, Global};
 
@@ -177,10 +176,10 @@ impl Stack {
         Ok((left, right))
     }
 
-    fn parts(&mut self, count: &str) -> Result<Items<Expr>, Fault> {
+    fn parts(&mut self, count: &str) -> Result<Seq<Expr>, Fault> {
         let count = number(count)?;
         let parts = pop_all(self.alloc, &mut self.exprs, count)?;
-        Ok(Items::from_vec(parts))
+        Ok(Seq::from_vec(parts))
     }
 
     fn body(&mut self) -> Result<Boxed<Algebra>, Fault> {
@@ -472,8 +471,8 @@ impl Stack {
         Ok(Expr::Sum { first, rest })
     }
 
-    fn operands(&mut self, signs: &str) -> Result<Items<(Sign, Expr)>, Fault> {
-        let mut operands = Items::new(self.alloc);
+    fn operands(&mut self, signs: &str) -> Result<Seq<(Sign, Expr)>, Fault> {
+        let mut operands = Seq::new(self.alloc);
         for sign in signs.chars() {
             operands.push(self.operand(sign)?)?;
         }

@@ -1,7 +1,6 @@
 use crate::cases::{bytes, no_case, plain, shown};
 use expr_eval::{CompareOp, Env, Evaluated, Expr, Function, Sign, evaluate, evaluate_truth};
-use items_core::{Boxed, Items};
-use rdf_terms::{Memory, Term, TextBuf, write_term};
+use rdf_terms::{Boxed, Memory, Seq, Term, TextBuf, write_term};
 use std::alloc::Global;
 
 const LANG_STRING: &str = "http://www.w3.org/1999/02/22-rdf-syntax-ns#langString";
@@ -57,8 +56,8 @@ fn signed_operands(
     alloc: Global,
     signs: &str,
     operands: Vec<Expr>,
-) -> Result<Items<(Sign, Expr)>, Memory> {
-    let mut rest = Items::new(alloc);
+) -> Result<Seq<(Sign, Expr)>, Memory> {
+    let mut rest = Seq::new(alloc);
     for (sign, operand) in signs.bytes().zip(operands) {
         rest.push((sign_of(sign), operand))?;
     }
@@ -155,12 +154,12 @@ impl Stacks {
     }
 
     /// The last so many expressions, in their order.
-    fn last(&mut self, count: usize) -> Result<Option<Items<Expr>>, Memory> {
+    fn last(&mut self, count: usize) -> Result<Option<Seq<Expr>>, Memory> {
         let Some(at) = self.exprs.len().checked_sub(count) else {
             return Ok(None);
         };
         let last = self.exprs.split_off(at)?;
-        Ok(Some(Items::from_vec(last)))
+        Ok(Some(Seq::from_vec(last)))
     }
 
     fn any(&mut self, count: &str) -> Made {

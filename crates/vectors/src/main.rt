@@ -12,8 +12,11 @@ mod cases;
 mod documents;
 mod expressions;
 mod iri;
+mod joins;
 mod link;
+mod messages;
 mod queries;
+mod serving;
 mod site;
 mod terms;
 mod tokens;
@@ -30,7 +33,10 @@ fn answer_of_kind(alloc: Global, kind: &str, line: &str) -> Result<String, Memor
         "algebra" => algebra::answer(alloc, line),
         "link" => link::answer(alloc, line),
         "iri" => iri::answer(alloc, line),
+        "join" => joins::answer(alloc, line),
         "site" => site::answer(alloc, line),
+        "serve" => serving::answer(alloc, line),
+        "http" | "http_pieces" => messages::answer(alloc, line),
         "terms" => terms::forms(alloc, line),
         "forms" => terms::literal_forms(alloc, line),
         "values" => terms::values(alloc, line),

@@ -1,17 +1,17 @@
 -- The open links of a fetcher in memory, where one of them fails a try or is taken out.
-use Rattle.std.proofs.Common.{ℕ, zero, suc, ◌≡◌, ◌+◌, ◌<◌, List, [], ◌∷◌, ◌++◌, refl, sym, ◌∙◌, ap, subst, inl, inr, arith, length, get_or, set}
+use Rattle.std.proofs.Common.{ℕ, zero, suc, ◌≡◌, ◌+◌, ◌<◌, List, [], ◌∷◌, ◌++◌, refl, sym, ◌∙◌, ap, subst, inl, inr, arith, length, get_or, set, append-nil}
 use Rattle.std.specs.Prelude.{map, remove, OnOk, OnErr, Result, Ok, Err}
 use Rattle.rdf_terms.specs.Lists.{IsIn, Apart}
 use Rattle.rdf_terms.proofs.Members.{apart_push, map_push}
-use Rattle.reach_terms.specs.declared.record.Cause.{Cause}
-use Rattle.reach_terms.specs.declared.record.Cause.TheVariants.{Connect, Broken, Cut, Silent}
-use Rattle.reach_terms.specs.Web.{Fetch}
+use Rattle.reachability.specs.declared.record.Cause.{Cause}
+use Rattle.reachability.specs.declared.record.Cause.TheVariants.{Connect, Broken, Cut, Silent}
+use Rattle.reachability.specs.Web.{Fetch, NeverHeard}
 use Rattle.web_port.specs.declared.flight.Flight.{Flight}
 use Rattle.web_port.specs.declared.losses.Losses.{Losses}
 use Rattle.web_port.specs.Counts.{lost_in, one_more, is_cause}
 use Rattle.web_port.specs.Flights.{flight_number, numbers, failed_tries, without, fresh}
-use Rattle.web_port.specs.Port.{Goes, AllGo, NeverHeard}
-use Rattle.web_port.specs.Lanes.{Flying, started, AllBelow, FlightsKept, failed_once, tries_left}
+use Rattle.web_port.specs.Port.{Goes, AllGo, Starts}
+use Rattle.web_port.specs.Lanes.{Flying, started, AllBelow, FlightsKept, failed_once, tries_left, port_of}
 use Rattle.web_port.proofs.PortLemmas.{go_none, without_cases}
 
 -- no failed try at a sure fetcher, but for a link that is never heard
@@ -160,3 +160,7 @@ kept_start tries xs number text k h new = record {
 pub kept_started : {A E : Type 0} (r : Result A E) (tries : ℕ) (o new : Flying) (number : ℕ) (text : List ℕ) → FlightsKept tries o.flights → 0 < tries → (IsIn (numbers o.flights) number → ⊥) → OnOk r (new ≡ started o number text) → OnErr r (new ≡ o) → FlightsKept tries new.flights
 kept_started (Ok x) tries o new number text k h f s e = rw s (kept_start tries o.flights number text k h f)
 kept_started (Err x) tries o new number text k h f s e = rw e k
+
+-- a link is started behind the others
+pub starts_behind : (m n : ℕ) (o : Flying) (number : ℕ) (text : List ℕ) → Starts (port_of m o) number text (port_of n (started o number text))
+starts_behind m n o number text = record { ahead = o.flights; behind = []; were = sym (append-nil o.flights); flights = refl; faults = refl; starts = refl; lost = refl }

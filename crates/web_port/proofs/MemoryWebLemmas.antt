@@ -7,15 +7,15 @@ use Rattle.std.proofs.lemmas.List.{drop-drop}
 use Rattle.rdf_terms.specs.Lists.{IsIn, Apart}
 use Rattle.link_uri.specs.declared.heard.Heard.{Heard}
 use Rattle.link_uri.specs.declared.heard.Heard.TheVariants.{Reply, Malformed, TooLong, Never}
-use Rattle.reach_terms.specs.declared.record.Cause.{Cause}
-use Rattle.reach_terms.specs.declared.web.Web.{Web}
-use Rattle.reach_terms.specs.Web.{Fetch}
+use Rattle.reachability.specs.declared.record.Cause.{Cause}
+use Rattle.reachability.specs.declared.web.Web.{Web}
+use Rattle.reachability.specs.Web.{Fetch, heard_at}
 use Rattle.web_port.specs.declared.flight.Flight.{Flight}
 use Rattle.web_port.specs.declared.fetcher.Got.TheVariants.{Heard as Told, Unreachable}
 use Rattle.web_port.specs.declared.fetcher.Polled.{Polled}
 use Rattle.web_port.specs.declared.fetcher.Polled.TheVariants.{Settled, Pending}
 use Rattle.web_port.specs.Flights.{numbers, fresh}
-use Rattle.web_port.specs.Port.{Port, Waits, Polls, heard_of}
+use Rattle.web_port.specs.Port.{Port, Waits, Polls}
 use Rattle.web_port.specs.Lanes.{Flying, FlightsKept, failed_once, retried, given_up, answered, tries_left, port_of}
 use Rattle.web_port.specs.MemoryWeb.{Fails, Fetching, first_turn, later_turns, times_in, is_never, failing, polled_try, after_try, flight_at, place_of, waiting_turn, polled_lane, polled_turn, after_lane, after_turn, next_polled, after_poll, is_empty_list, fetch_of, fetching_port}
 use Rattle.web_port.proofs.PortLemmas.{go_none}
@@ -85,7 +85,7 @@ never_it_is Malformed h = absurd (cc)
 never_it_is TooLong h = absurd (cc)
 never_it_is Never h = refl
 
-pub polls_answered : (web : Web) (tries m n : ℕ) (fails : Fails) (o : Flying) (i : ℕ) (d : Flight) (heard : Heard) → i < length o.flights → heard ≢ Never → heard_of web (get_or o.flights i d).link ≡ heard → Apart (numbers o.flights)
+pub polls_answered : (web : Web) (tries m n : ℕ) (fails : Fails) (o : Flying) (i : ℕ) (d : Flight) (heard : Heard) → i < length o.flights → heard ≢ Never → heard_at web (get_or o.flights i d).link ≡ heard → Apart (numbers o.flights)
     → Polls (fetch_of web tries fails) (port_of m o) (Settled (get_or o.flights i d).number (Told heard)) (port_of n (answered o i))
 polls_answered web tries m n fails o i d heard h speaks hears a =
     record {
@@ -116,11 +116,11 @@ answers_cases false true x y e = absurd (cc)
 answers_cases false false x y e = refl
 
 -- with no link that fails to connect, only a link that is never heard fails
-may_fail : (web : Web) (tries : ℕ) (fails : Fails) (x : Flight) (cause : Cause) → failing fails (heard_of web x.link) x ≡ Some cause → MayFail (fetch_of web tries fails) x
+may_fail : (web : Web) (tries : ℕ) (fails : Fails) (x : Flight) (cause : Cause) → failing fails (heard_at web x.link) x ≡ Some cause → MayFail (fetch_of web tries fails) x
 may_fail web tries fails x cause e = λ s.
     elim (fails_cases _ _ _ _ cause e) [
       | inl b ↦ absurd (no_times fails x.failed x.link s b)
-      | inr c ↦ never_it_is (heard_of web x.link) c
+      | inr c ↦ never_it_is (heard_at web x.link) c
     ]
 
 -- ---- a poll
@@ -136,14 +136,14 @@ polls_failed fetch tries m n o i d cause false e le h same f k =
     let last : (get_or o.flights i d).failed + 1 ≡ tries = grind (arith, nat_tests) in
     polls_given_up fetch tries (m + tries_left tries o.flights) (n + tries_left tries (given_up o i cause).flights) o i d cause h last same f k.once
 
-polls_try : (web : Web) (tries m n : ℕ) (fails : Fails) (o : Flying) (i : ℕ) (d : Flight) (cause : Option Cause) → failing fails (heard_of web (get_or o.flights i d).link) (get_or o.flights i d) ≡ cause → n ≤ m → i < length o.flights → FlightsKept tries o.flights
+polls_try : (web : Web) (tries m n : ℕ) (fails : Fails) (o : Flying) (i : ℕ) (d : Flight) (cause : Option Cause) → failing fails (heard_at web (get_or o.flights i d).link) (get_or o.flights i d) ≡ cause → n ≤ m → i < length o.flights → FlightsKept tries o.flights
     → Polls (fetch_of web tries fails) (port_of (m + tries_left tries o.flights) o)
-    (polled_try tries (get_or o.flights i d) (heard_of web (get_or o.flights i d).link) cause)
+    (polled_try tries (get_or o.flights i d) (heard_at web (get_or o.flights i d).link) cause)
     (port_of (n + tries_left tries (after_try tries o i (get_or o.flights i d) cause).flights) (after_try tries o i (get_or o.flights i d) cause))
 polls_try web tries m n fails o i d (Some cause) e le h k =
     polls_failed (fetch_of web tries fails) tries m n o i d cause (nat_lt ((get_or o.flights i d).failed + 1) tries) refl le h refl (may_fail web tries fails (get_or o.flights i d) cause e) k
 polls_try web tries m n fails o i d None e le h k =
-    polls_answered web tries (m + tries_left tries o.flights) (n + tries_left tries (answered o i).flights) fails o i d (heard_of web (get_or o.flights i d).link) h (not_never _ (answers_cases _ _ _ _ e)) refl k.once
+    polls_answered web tries (m + tries_left tries o.flights) (n + tries_left tries (answered o i).flights) fails o i d (heard_at web (get_or o.flights i d).link) h (not_never _ (answers_cases _ _ _ _ e)) refl k.once
 
 polls_choice : (fetch : Fetch) (p : Port) (q : Flying → Port) (b : Bool) (polled : Polled) (o mid : Flying) → (b ≡ true → Polls fetch p Pending (q o)) → Polls fetch p polled (q mid) → Polls fetch p (if b then Pending else polled) (q (if b then o else mid))
 polls_choice fetch p q true polled o mid w k = w refl
@@ -166,7 +166,7 @@ polls_turn web tries fails turns o (x ∷ xs) e k =
     let l = turn_less turns (is_waiting (first_turn turns) t) in
     (waits_same (fetch_of web tries fails) (length turns + tries_left tries o.flights) (length (later_turns turns) + tries_left tries o.flights) o, (λ z. let u = sym z ∙ e in absurd (cc)), omega arith))
     (subst (λ (ys : List Flight). Polls (fetch_of web tries fails) (port_of (length turns + tries_left tries o.flights) o) (polled_lane web tries fails ys (place_of (first_turn turns) (x ∷ xs))) (port_of (length (later_turns turns) + tries_left tries (after_lane web tries fails o (place_of (first_turn turns) (x ∷ xs))).flights) (after_lane web tries fails o (place_of (first_turn turns) (x ∷ xs))))) e
-    (polls_try web tries (length turns) (length (later_turns turns)) fails o (place_of (first_turn turns) (x ∷ xs)) (fresh 0 []) (failing fails (heard_of web (flight_at o.flights (place_of (first_turn turns) (x ∷ xs))).link) (flight_at o.flights (place_of (first_turn turns) (x ∷ xs)))) refl (later_less turns) h k))
+    (polls_try web tries (length turns) (length (later_turns turns)) fails o (place_of (first_turn turns) (x ∷ xs)) (fresh 0 []) (failing fails (heard_at web (flight_at o.flights (place_of (first_turn turns) (x ∷ xs))).link) (flight_at o.flights (place_of (first_turn turns) (x ∷ xs)))) refl (later_less turns) h k))
 
 pub polls_next : (f : Fetching) → FlightsKept f.tries f.flying.flights → Polls (fetch_of f.web f.tries f.fails) (fetching_port f) (next_polled f) (fetching_port (after_poll f))
 polls_next f k = polls_turn f.web f.tries f.fails f.turns f.flying f.flying.flights refl k
@@ -189,7 +189,7 @@ pub kept_turn : (web : Web) (tries : ℕ) (fails : Fails) (o : Flying) (xs : Lis
 kept_turn web tries fails o [] turn k = k
 kept_turn web tries fails o (x ∷ xs) turn k =
     kept_choice tries (turn == waiting_turn) o (after_lane web tries fails o (place_of turn (x ∷ xs))) k
-    (kept_try tries o (place_of turn (x ∷ xs)) (fresh 0 []) (failing fails (heard_of web (flight_at o.flights (place_of turn (x ∷ xs))).link) (flight_at o.flights (place_of turn (x ∷ xs)))) k)
+    (kept_try tries o (place_of turn (x ∷ xs)) (fresh 0 []) (failing fails (heard_at web (flight_at o.flights (place_of turn (x ∷ xs))).link) (flight_at o.flights (place_of turn (x ∷ xs)))) k)
 
 -- ---- the clauses of a poll
 

@@ -4,11 +4,11 @@ use Rattle.std.specs.Prelude.{if◌then◌else◌, ◌==◌}
 use Rattle.std.proofs.lemmas.Bool.Decides.{nat_tests}
 use Rattle.rdf_terms.specs.Lists.{IsIn, Apart}
 use Rattle.rdf_terms.proofs.Members.{in_map, from_map}
-use Rattle.reach_terms.specs.Web.{Fetch}
+use Rattle.reachability.specs.Web.{Fetch, NeverHeard}
 use Rattle.web_port.specs.declared.flight.Flight.{Flight}
 use Rattle.web_port.specs.declared.fetcher.Got.{Got}
 use Rattle.web_port.specs.Flights.{flight_number, numbers, failed_tries, without, fresh}
-use Rattle.web_port.specs.Port.{Port, Goes, AllGo, Turns, Lands, Waits, NeverHeard, lost_by, PortKept}
+use Rattle.web_port.specs.Port.{Port, Goes, AllGo, Turns, Lands, Waits, Starts, lost_by, PortKept}
 
 pub go_none : (fetch : Fetch) (xs : List Flight) → AllGo fetch xs xs
 go_none fetch [] = tt
@@ -155,9 +155,51 @@ failed_without (x ∷ xs) y a h =
       ]
     ]
 
-pub failed_push : (fl : List Flight) (n : ℕ) (u : List ℕ) → failed_tries (fl ++ fresh n u ∷ []) ≡ failed_tries fl
-failed_push [] n u = refl
-failed_push (x ∷ xs) n u = let r = failed_push xs n u in omega arith
+-- ---- one more link, anywhere among the others
+
+length_insert : (xs ys : List Flight) (y : Flight) → length (xs ++ y ∷ ys) ≡ length (xs ++ ys) + 1
+length_insert [] ys y = omega arith
+length_insert (a ∷ xs) ys y = let r = length_insert xs ys y in omega arith
+
+failed_insert : (xs ys : List Flight) (n : ℕ) (u : List ℕ) → failed_tries (xs ++ fresh n u ∷ ys) ≡ failed_tries (xs ++ ys)
+failed_insert [] ys n u = omega arith
+failed_insert (a ∷ xs) ys n u = let r = failed_insert xs ys n u in omega arith
+
+from_insert : (xs ys : List Flight) (y x : Flight) → IsIn (xs ++ y ∷ ys) x → (y ≡ x) ⊎ IsIn (xs ++ ys) x
+from_insert [] ys y x h = h
+from_insert (a ∷ xs) ys y x (inl e) = inr (inl e)
+from_insert (a ∷ xs) ys y x (inr h) = elim (from_insert xs ys y x h) [ inl e ↦ inl e | inr i ↦ inr (inr i) ]
+
+apart_insert : (xs ys : List Flight) (y : Flight) → Apart (numbers (xs ++ ys)) → (IsIn (numbers (xs ++ ys)) y.number → ⊥) → Apart (numbers (xs ++ y ∷ ys))
+apart_insert [] ys y k new = (new, k)
+apart_insert (a ∷ xs) ys y k new = (
+  (λ h.
+      let r = from_map flight_number (xs ++ y ∷ ys) a.number h in
+      elim (from_insert xs ys y r.0 r.1) [
+        | inl e ↦ new (inl (sym r.2 ∙ sym (ap flight_number e)))
+        | inr i ↦ k.0 (subst (λ (w : ℕ). IsIn (numbers (xs ++ ys)) w) r.2 (in_map flight_number (xs ++ ys) r.0 i))
+      ]),
+  apart_insert xs ys y k.1 (λ h. new (inr h)),
+)
+
+-- a link that is open after a start is the one that was started, or was open before
+pub from_start : (p q : Port) (n : ℕ) (text : List ℕ) (x : Flight) → Starts p n text q → IsIn q.flights x → (fresh n text ≡ x) ⊎ IsIn p.flights x
+from_start p q n text x s h =
+    elim (from_insert s.ahead s.behind (fresh n text) x (subst (λ (fl : List Flight). IsIn fl x) s.flights h)) [
+      | inl e ↦ inl e
+      | inr i ↦ inr (subst (λ (fl : List Flight). IsIn fl x) (sym s.were) i)
+    ]
+
+pub length_starts : (p q : Port) (n : ℕ) (text : List ℕ) → Starts p n text q → length q.flights ≡ length p.flights + 1
+length_starts p q n text s =
+    let a = ap length s.flights in
+    let b = ap length s.were in
+    let c = length_insert s.ahead s.behind (fresh n text) in
+    omega arith
+
+pub failed_starts : (p q : Port) (n : ℕ) (text : List ℕ) → Starts p n text q → failed_tries q.flights ≡ failed_tries p.flights
+failed_starts p q n text s =
+    ap failed_tries s.flights ∙ (failed_insert s.ahead s.behind n text ∙ sym (ap failed_tries s.were))
 
 -- what a fetcher keeps of what it has open
 
@@ -199,6 +241,20 @@ kept_without fetch lanes xs n k =
 pub kept_lands : (fetch : Fetch) (lanes : ℕ) (p q : Port) (n : ℕ) (got : Got) → Lands fetch p n got q → PortKept fetch lanes p.flights → PortKept fetch lanes q.flights
 kept_lands fetch lanes p q n got l k =
     subst (λ (xs : List Flight). PortKept fetch lanes xs) (sym l.rest) (kept_without fetch lanes l.mid n (kept_gone fetch lanes p.flights l.mid l.turns.all k))
+
+pub kept_starts : (fetch : Fetch) (lanes : ℕ) (p q : Port) (n : ℕ) (text : List ℕ) → Starts p n text q → (IsIn (numbers p.flights) n → ⊥) → length p.flights < lanes → PortKept fetch lanes p.flights → PortKept fetch lanes q.flights
+kept_starts fetch lanes p q n text s new room k =
+    let len = length_starts p q n text s in
+    record {
+      once = subst (λ (fl : List Flight). Apart (numbers fl)) (sym s.flights)
+          (apart_insert s.ahead s.behind (fresh n text) (subst (λ (fl : List Flight). Apart (numbers fl)) s.were k.once) (subst (λ (fl : List Flight). IsIn (numbers fl) n → ⊥) s.were new));
+      never = λ x h t f.
+          elim (from_start p q n text x s h) [
+            | inl e ↦ let g = ap (λ (y : Flight). y.failed) e in absurd (omega arith)
+            | inr i ↦ k.never x i t f
+          ];
+      within = omega arith;
+    }
 
 -- the same over an equation of the fetcher's settings
 pub waits_more : (fetch f : Fetch) (p q r : Port) → f ≡ fetch → Waits fetch p q → Waits f q r → Waits fetch p r

@@ -1,7 +1,7 @@
 -- Counts of faults, by themselves and by their cause.
 use Rattle.std.specs.Prelude.{ℕ, ◌+◌, ◌-◌, ◌^◌, ◌≤◌, min}
-use Rattle.reach_terms.specs.declared.record.Cause.{Cause}
-use Rattle.reach_terms.specs.declared.record.Cause.TheVariants.{Connect, Broken, Cut, Silent}
+use Rattle.reachability.specs.declared.record.Cause.{Cause}
+use Rattle.reachability.specs.declared.record.Cause.TheVariants.{Connect, Broken, Cut, Silent}
 use Rattle.web_port.specs.declared.losses.Losses.{Losses}
 
 -- a count rose by so much, or stands at the greatest u64

@@ -1,7 +1,7 @@
 -- What a fetcher in memory has open, and the steps that it makes.
 use Rattle.std.specs.Prelude.{ℕ, ◌+◌, ◌-◌, ◌<◌, List, [], ◌∷◌, ◌++◌, Some, if◌then◌else◌, nat_lt, set, remove}
 use Rattle.rdf_terms.specs.Lists.{Apart}
-use Rattle.reach_terms.specs.declared.record.Cause.{Cause}
+use Rattle.reachability.specs.declared.record.Cause.{Cause}
 use Rattle.web_port.specs.declared.flight.Flight.{Flight}
 use Rattle.web_port.specs.declared.losses.Losses.{Losses}
 use Rattle.web_port.specs.declared.fetcher.Got.TheVariants.{Unreachable}

@@ -1,6 +1,6 @@
 -- The contents of what makes fetchers over a web in memory.
 use Rattle.std.specs.Prelude.{ℕ}
-use Rattle.reach_terms.specs.declared.web.Web.{Web}
+use Rattle.reachability.specs.declared.web.Web.{Web}
 use Rattle.web_port.specs.declared.losses.Losses.{Losses}
 use Rattle.web_port.specs.MemoryWeb.{Fails}
 

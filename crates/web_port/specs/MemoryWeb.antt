@@ -2,16 +2,16 @@
 use Rattle.std.specs.Prelude.{ℕ, ◌==◌, ◌+◌, ◌%◌, List, [], ◌∷◌, Option, Some, None, Bool, true, false, if◌then◌else◌, nat_lt, bytes_eq, get_or, length}
 use Rattle.link_uri.specs.declared.heard.Heard.{Heard}
 use Rattle.link_uri.specs.declared.heard.Heard.TheVariants.{Reply, Malformed, TooLong, Never}
-use Rattle.reach_terms.specs.declared.record.Cause.{Cause}
-use Rattle.reach_terms.specs.declared.record.Cause.TheVariants.{Connect, Cut}
-use Rattle.reach_terms.specs.declared.web.Web.{Web}
-use Rattle.reach_terms.specs.Web.{Fetch}
+use Rattle.reachability.specs.declared.record.Cause.{Cause}
+use Rattle.reachability.specs.declared.record.Cause.TheVariants.{Connect, Cut}
+use Rattle.reachability.specs.declared.web.Web.{Web}
+use Rattle.reachability.specs.Web.{Fetch, heard_at}
 use Rattle.web_port.specs.declared.flight.Flight.{Flight}
 use Rattle.web_port.specs.declared.fetcher.Got.TheVariants.{Heard as Told}
 use Rattle.web_port.specs.declared.fetcher.Polled.{Polled}
 use Rattle.web_port.specs.declared.fetcher.Polled.TheVariants.{Settled, Pending, Idle}
 use Rattle.web_port.specs.Flights.{fresh}
-use Rattle.web_port.specs.Port.{Port, heard_of}
+use Rattle.web_port.specs.Port.{Port}
 use Rattle.web_port.specs.Lanes.{Flying, answered, polled_failed, after_failed, tries_left, port_of}
 
 -- links that fail to connect in so many first tries after each start
@@ -79,7 +79,7 @@ waiting_turn = 65535
 abbrev pub polled_lane : Web → ℕ → Fails → List Flight → ℕ → Polled
 polled_lane web tries fails flights place =
     let x = flight_at flights place in
-    polled_try tries x (heard_of web x.link) (failing fails (heard_of web x.link) x)
+    polled_try tries x (heard_at web x.link) (failing fails (heard_at web x.link) x)
 
 abbrev pub polled_turn : Web → ℕ → Fails → List Flight → ℕ → Polled
 polled_turn web tries fails [] turn = Idle
@@ -89,7 +89,7 @@ polled_turn web tries fails (x ∷ xs) turn = if turn == waiting_turn then Pendi
 abbrev pub after_lane : Web → ℕ → Fails → Flying → ℕ → Flying
 after_lane web tries fails o place =
     let x = flight_at o.flights place in
-    after_try tries o place x (failing fails (heard_of web x.link) x)
+    after_try tries o place x (failing fails (heard_at web x.link) x)
 
 abbrev pub after_turn : Web → ℕ → Fails → Flying → List Flight → ℕ → Flying
 after_turn web tries fails o [] turn = o
@@ -111,7 +111,7 @@ is_empty_list [] = true
 is_empty_list (x ∷ xs) = false
 
 abbrev pub fetch_of : Web → ℕ → Fails → Fetch
-fetch_of web tries fails = record { web = Some web; tries = tries; sure = is_empty_list fails }
+fetch_of web tries fails = record { web = Some (heard_at web); tries = tries; sure = is_empty_list fails }
 
 -- a poll is Pending where a turn says so, or where a try fails
 abbrev pub fetching_port : Fetching → Port

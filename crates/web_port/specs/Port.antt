@@ -1,11 +1,10 @@
 -- The state of a fetcher, and what its calls do to it.
 use Rattle.std.specs.Prelude.{ℕ, ◌≡◌, ◌≢◌, ◌+◌, ◌<◌, ◌≤◌, List, [], ◌∷◌, ◌++◌, Option, Some, None, IfSome, true, length}
 use Rattle.rdf_terms.specs.Lists.{IsIn, Apart}
-use Rattle.link_uri.specs.declared.heard.Heard.{Heard}
 use Rattle.link_uri.specs.declared.heard.Heard.TheVariants.{Never}
-use Rattle.reach_terms.specs.declared.record.Cause.{Cause}
-use Rattle.reach_terms.specs.declared.web.Web.{Web}
-use Rattle.reach_terms.specs.Web.{Fetch, heard_in}
+use Rattle.reachability.specs.declared.record.Cause.{Cause}
+use Rattle.reachability.specs.Web.{Fetch, NeverHeard}
+use Rattle.reachability.specs.Reach.{Text}
 use Rattle.web_port.specs.declared.flight.Flight.{Flight}
 use Rattle.web_port.specs.declared.losses.Losses.{Losses}
 use Rattle.web_port.specs.declared.fetcher.Got.{Got}
@@ -22,15 +21,6 @@ pub record Port : Type 0 where
   pub faults : ℕ
   pub starts : ℕ
   pub lost : Losses
-
--- what the web answers for the link of a text
-abbrev pub heard_of : Web → List ℕ → Heard
-heard_of web text = heard_in web.entries web.otherwise text
-
--- a web is told, and it never answers the link
-abbrev pub NeverHeard : Option Web → List ℕ → Type 0
-NeverHeard None text = ⊥
-NeverHeard (Some web) text = heard_of web text ≡ Never
 
 -- an open link before a poll, and after it; only a link that is never heard fails at a sure fetcher
 pub record Goes (fetch : Fetch) (x y : Flight) : Type 0 where
@@ -56,7 +46,7 @@ pub record Turns (fetch : Fetch) (before : Port) (mid : List Flight) (after : Po
 -- what may be got for an open link: what a told web answers, and no answer is Never; or nothing,
 -- once its failed tries reached the tries, with the cause of the last
 abbrev pub Gives : Fetch → Flight → Got → Type 0
-Gives fetch x (Told heard) = (heard ≢ Never) × IfSome fetch.web (λ web. heard_of web x.link ≡ heard)
+Gives fetch x (Told heard) = (heard ≢ Never) × IfSome fetch.web (λ web. web x.link ≡ heard)
 Gives fetch x (Unreachable cause tries) = (x.failed ≡ fetch.tries) × (tries ≡ fetch.tries) × (x.last ≡ Some cause)
 
 -- how many links it adds to those that were lost by a cause
@@ -86,16 +76,20 @@ Polls fetch before (Settled number got) after = Lands fetch before number got af
 Polls fetch before Pending after = Waits fetch before after × (before.flights ≢ []) × (after.left < before.left)
 Polls fetch before Idle after = Waits fetch before after × (before.flights ≡ [])
 
--- the link was started
-pub record Starts (before : Port) (number : ℕ) (text : List ℕ) (after : Port) : Type 0 where
-  pub flights : after.flights ≡ before.flights ++ fresh number text ∷ []
+-- the link was started: it stands anywhere among those that were open, which keep their order
+pub record Starts (before : Port) (number : ℕ) (text : Text) (after : Port) : Type 0 where
+  pub ahead : List Flight
+  pub behind : List Flight
+  pub were : before.flights ≡ ahead ++ behind
+  pub flights : after.flights ≡ ahead ++ fresh number text ∷ behind
   pub faults : after.faults ≡ before.faults
   pub starts : after.starts ≡ before.starts + 1
   pub lost : after.lost ≡ before.lost
 
--- nothing was started
+-- nothing was started, and nothing happened
 pub record Stays (before after : Port) : Type 0 where
   pub flights : after.flights ≡ before.flights
+  pub left : after.left ≡ before.left
   pub faults : after.faults ≡ before.faults
   pub starts : after.starts ≡ before.starts
   pub lost : after.lost ≡ before.lost

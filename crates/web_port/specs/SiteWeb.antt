@@ -3,8 +3,8 @@ use Rattle.std.specs.Prelude.{ℕ, List, [], ◌∷◌, None, map, true, Some}
 use Rattle.link_uri.specs.declared.heard.Heard.{Heard}
 use Rattle.link_uri.specs.declared.heard.Heard.TheVariants.{Reply}
 use Rattle.link_uri.specs.declared.heard.Reply.{Reply as AReply}
-use Rattle.reach_terms.specs.declared.web.Web.{Web}
-use Rattle.reach_terms.specs.Web.{Fetch}
+use Rattle.reachability.specs.declared.web.Web.{Web}
+use Rattle.reachability.specs.Web.{Fetch, heard_at}
 use Rattle.site_core.specs.Text.{Entry}
 use Rattle.web_port.specs.declared.flight.Flight.{Flight}
 use Rattle.web_port.specs.declared.losses.Losses.{Losses}
@@ -12,7 +12,6 @@ use Rattle.web_port.specs.declared.fetcher.Got.TheVariants.{Heard as Told}
 use Rattle.web_port.specs.declared.fetcher.Polled.{Polled}
 use Rattle.web_port.specs.declared.fetcher.Polled.TheVariants.{Settled, Idle}
 use Rattle.web_port.specs.Lanes.{Flying, answered}
-use Rattle.web_port.specs.Port.{heard_of}
 
 -- a 404 without fields and body
 abbrev pub not_found : AReply
@@ -42,12 +41,12 @@ pub record SiteFetching : Type 0 where
 
 -- all that such fetchers share: they are sure
 abbrev pub site_fetch : List Entry → ℕ → Fetch
-site_fetch site tries = record { web = Some (web_of_site site); tries = tries; sure = true }
+site_fetch site tries = record { web = Some (heard_at (web_of_site site)); tries = tries; sure = true }
 
 -- a poll answers the link that was started first
 abbrev pub site_polled : Web → List Flight → Polled
 site_polled web [] = Idle
-site_polled web (x ∷ xs) = Settled x.number (Told (heard_of web x.link))
+site_polled web (x ∷ xs) = Settled x.number (Told (heard_at web x.link))
 
 abbrev pub after_site_poll : Flying → List Flight → Flying
 after_site_poll o [] = o

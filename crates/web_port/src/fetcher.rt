@@ -1,13 +1,13 @@
 ghost use Rattle.std.specs.Prelude.{◌≡◌, ◌<◌, ◌↔◌, ℕ, length, true, IsTrue, IsSome, OnOk, OnErr, IfOk};
 ghost use Rattle.rdf_terms.specs.Lists.{IsIn};
 ghost use Rattle.link_uri.specs.Links.{IsLink};
-ghost use Rattle.reach_terms.specs.Web.{Fetch};
+ghost use Rattle.reachability.specs.Web.{Fetch};
 ghost use Rattle.web_port.specs.Flights.{numbers};
 ghost use Rattle.web_port.specs.Port.{Port, Polls, Starts, Stays, Waits};
 
 use link_uri::{Heard, Link, Scheme};
 use rdf_terms::Memory;
-use reach_terms::Cause;
+use reachability::Cause;
 
 /// What was got for a link.
 #[derive(Debug, Drop)]
@@ -32,8 +32,8 @@ pub enum Polled {
 /// Looks up links, so many at a time as it has lanes.
 ///
 /// A link is started under a number, and polls settle one link at a time. Each failed try is a
-/// fault. After want of memory in a poll the open links stand as they were, but more tries may
-/// have failed.
+/// fault. A start without memory changes nothing. After want of memory in a poll the same links
+/// are open, but more of their tries may have failed, with as many more faults.
 pub trait Fetcher {
     /// The web, where it is told, the number of tries, and whether only links that the web never
     /// answers fail: what is sure tells its web. No call changes it.

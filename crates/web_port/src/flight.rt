@@ -1,5 +1,5 @@
 use rdf_terms::TextBuf;
-use reach_terms::Cause;
+use reachability::Cause;
 
 /// A link that is open at a fetcher.
 #[derive(Debug, Drop)]

@@ -4,7 +4,7 @@ ghost use Rattle.web_port.specs.Lanes as spec;
 use crate::{Flight, Got, Losses, Polled};
 use link_uri::Heard;
 use rdf_terms::{Memory, TextBuf};
-use reach_terms::Cause;
+use reachability::Cause;
 use std::alloc::Global;
 use std::marker::Model;
 

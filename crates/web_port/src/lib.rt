@@ -7,7 +7,10 @@
 //! (`specs/MemoryWeb.antt`).
 //! Not here: fetching over sockets (`fetch_poll`), and what an answer means (`doc_reader`).
 //!
-//! Want of memory is `Memory` everywhere; after it every argument that was lent is as before.
+//! Want of memory is `Memory` everywhere; after it every argument that was lent is as before, but
+//! for a fetcher that was polled: the same links are open, and more of their tries may have failed,
+//! with as many more faults. A poll of this crate's own fetchers changes nothing then; `next_landed`
+//! makes several polls.
 #![tactic(auto)]
 
 mod fetcher;
@@ -31,4 +34,4 @@ pub use crate::memory_web::MemoryWeb;
 pub use crate::polling::next_landed;
 pub use crate::settings::{FetchSettings, Via};
 pub use crate::site_links::{SiteFetcher, SiteLinks};
-pub use reach_terms::{Cause, Web};
+pub use reachability::{Cause, Web};

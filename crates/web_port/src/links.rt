@@ -1,8 +1,8 @@
-ghost use Rattle.std.specs.Prelude.{◌≡◌, ◌≤◌, ℕ, Bool, true, IsSome, IfOk};
+ghost use Rattle.std.specs.Prelude.{◌≡◌, ◌≤◌, ℕ, Bool, true, IsSome, IfOk, OnOk};
 ghost use Rattle.std.specs.declared.option.Option.{Option};
 ghost use Rattle.outer_ports.specs.Causes.{Rose};
-ghost use Rattle.reach_terms.specs.declared.record.Cause.{Cause};
-ghost use Rattle.reach_terms.specs.declared.web.Web.{Web};
+ghost use Rattle.reachability.specs.declared.record.Cause.{Cause};
+ghost use Rattle.reachability.specs.Web.{ToldWeb};
 ghost use Rattle.web_port.specs.declared.losses.Losses.{Losses};
 ghost use Rattle.web_port.specs.Counts.{RoseBy, lost_in};
 ghost use Rattle.web_port.specs.Port.{IsNew};
@@ -20,12 +20,13 @@ pub enum MakeFault {
     Memory,
 }
 
-/// What makes the fetchers of a web, and takes them back.
+/// What makes the fetchers of a web, and takes them back. Whoever has a fetcher made hands it to
+/// `retire` once its use ends, however it ends: only then are its faults and losses counted here.
 pub trait Links {
     type F: Fetcher + Send + Drop;
 
-    /// The web, where it is told. No call changes it.
-    ghost web: { Self → Option Web };
+    /// The web, where it is told, by what it answers for the text of each link. No call changes it.
+    ghost web: { Self → Option ToldWeb };
 
     /// Whether only links that the web never answers fail: what is sure tells its web. No call
     /// changes it.
@@ -34,7 +35,8 @@ pub trait Links {
     /// How often making a fetcher has failed.
     ghost faults: { Self → ℕ };
 
-    /// The faults of the fetchers that were taken back.
+    /// The faults of the fetchers that were taken back; what a fetcher counted that is still in use
+    /// is not in it.
     ghost spent: { Self → ℕ };
 
     /// The links that these gave up, by cause.
@@ -52,6 +54,7 @@ pub trait Links {
         ensures cause { result ≡ Err MakeFault.Failed → Rose (faults self.old) (faults self.new) }
         ensures later { faults self.old ≤ faults self.new }
         ensures memory { result ≡ Err MakeFault.Memory → faults self.new ≡ faults self.old }
+        ensures calm { OnOk result (faults self.new ≡ faults self.old) }
 
         // what is sure tells its web
         ensures told { sure self.old ≡ true → IsSome (web self.old) }

@@ -1,7 +1,7 @@
 ghost use Rattle.std.specs.Prelude.{◌≡◌, ◌+◌, ◌<◌, ◌^◌};
-ghost use Rattle.reach_terms.specs.declared.record.Cause.{Cause};
+ghost use Rattle.reachability.specs.declared.record.Cause.{Cause};
 
-use reach_terms::Cause;
+use reachability::Cause;
 
 /// How many links were given up, by the cause of their last failed try.
 #[derive(Clone, Copy, Debug, PartialEq, Eq, Drop)]

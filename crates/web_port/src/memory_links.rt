@@ -1,6 +1,7 @@
-ghost use Rattle.std.specs.Prelude.{◌≡◌, ◌≤◌, ◌<◌, ◌+◌, ◌-◌, ◌^◌, ◌↔◌, min, true, IsSome, IfOk, Some, []};
+ghost use Rattle.std.specs.Prelude.{◌≡◌, ◌≤◌, ◌<◌, ◌+◌, ◌-◌, ◌^◌, ◌↔◌, min, true, IsSome, IfOk, OnOk, Some, []};
 ghost use Rattle.outer_ports.specs.Causes.{Rose};
-ghost use Rattle.reach_terms.specs.declared.record.Cause.{Cause};
+ghost use Rattle.reachability.specs.declared.record.Cause.{Cause};
+ghost use Rattle.reachability.specs.Web.{heard_at};
 ghost use Rattle.web_port.specs.Counts.{no_losses, RoseBy, lost_in};
 ghost use Rattle.web_port.specs.Lanes.{nothing_flying};
 ghost use Rattle.web_port.specs.MemoryWeb.{fetch_of, fetching_port, is_empty_list};
@@ -9,7 +10,7 @@ ghost use Rattle.web_port.specs.Settings.{AreSettings};
 
 use crate::{FetchSettings, Links, Losses, MakeFault, MemoryWeb};
 use rdf_terms::{Memory, TextBuf};
-use reach_terms::Web;
+use reachability::Web;
 use std::alloc::Global;
 use std::marker::Model;
 
@@ -107,7 +108,7 @@ fn make(
 impl Links for MemoryLinks {
     type F = MemoryWeb;
 
-    ghost web = { λ l. Some l.web };
+    ghost web = { λ l. Some (heard_at l.web) };
 
     ghost sure = { λ l. is_empty_list l.fails };
 
@@ -127,8 +128,9 @@ impl Links for MemoryLinks {
         ensures cause { result ≡ Err MakeFault.Failed → Rose self.old.faults self.new.faults }
         ensures later { self.old.faults ≤ self.new.faults }
         ensures memory { result ≡ Err MakeFault.Memory → self.new.faults ≡ self.old.faults }
-        ensures told { is_empty_list self.old.fails ≡ true → IsSome (Some self.old.web) }
-        ensures same { (Some self.new.web ≡ Some self.old.web)
+        ensures calm { OnOk result (self.new.faults ≡ self.old.faults) }
+        ensures told { is_empty_list self.old.fails ≡ true → IsSome (Some (heard_at self.old.web)) }
+        ensures same { (Some (heard_at self.new.web) ≡ Some (heard_at self.old.web))
             × (is_empty_list self.new.fails ≡ is_empty_list self.old.fails) }
         ensures kept { (self.new.spent ≡ self.old.spent) × (self.new.lost ≡ self.old.lost) }
 
@@ -141,7 +143,7 @@ impl Links for MemoryLinks {
         ensures counted { (result ≡ Err MakeFault.Failed → self.new.faults ≡ min (self.old.faults + 1) (2 ^ 64 - 1))
             × ((result ≡ Err MakeFault.Failed → ⊥) → self.new.faults ≡ self.old.faults) }
         ensures made { IfOk result (λ f. (f.turns ≡ []) × (f.fails ≡ self.old.fails)) }
-        ensures rest { (self.new.refuse ≡ self.old.refuse) × (self.new.fails ≡ self.old.fails) }
+        ensures rest { (self.new.web ≡ self.old.web) × (self.new.refuse ≡ self.old.refuse) × (self.new.fails ≡ self.old.fails) }
     {
         if self.calls == self.refuse && self.refuse < u64::MAX {
             self.calls = self.calls.saturating_add(1);
@@ -161,10 +163,10 @@ impl Links for MemoryLinks {
         ensures spent { RoseBy self.old.spent fetcher.flying.faults self.new.spent }
         ensures lost { (c : Cause) → RoseBy (lost_in self.old.lost c)
             (lost_in fetcher.flying.lost c) (lost_in self.new.lost c) }
-        ensures same { (Some self.new.web ≡ Some self.old.web)
+        ensures same { (Some (heard_at self.new.web) ≡ Some (heard_at self.old.web))
             × (is_empty_list self.new.fails ≡ is_empty_list self.old.fails) }
         ensures faults { self.new.faults ≡ self.old.faults }
-        ensures rest { (self.new.refuse ≡ self.old.refuse) × (self.new.fails ≡ self.old.fails)
+        ensures rest { (self.new.web ≡ self.old.web) × (self.new.refuse ≡ self.old.refuse) × (self.new.fails ≡ self.old.fails)
             × (self.new.calls ≡ self.old.calls) }
     {
         self.spent = self.spent.saturating_add(fetcher.faults());

@@ -12,7 +12,7 @@ use crate::trying::{place_behind, try_turn, turn_at};
 use crate::{FetchSettings, Fetcher, Losses, Polled};
 use link_uri::{Link, Scheme};
 use rdf_terms::{Memory, TextBuf};
-use reach_terms::Web;
+use reachability::Web;
 use std::alloc::Global;
 use std::marker::Model;
 
@@ -129,6 +129,7 @@ impl Fetcher for MemoryWeb {
         self.flying.flights().len() < self.lanes as usize
     }
 
+    #[tactic(auto, using(crate::proofs::LanesLemmas::starts_behind))]
     fn start(&mut self, number: u64, link: &Link) -> Result<(), Memory>
         requires room { length self.old.flying.flights < self.old.lanes }
         requires fresh { IsIn (numbers self.old.flying.flights) number → ⊥ }

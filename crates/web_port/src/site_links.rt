@@ -1,7 +1,8 @@
 ghost use Rattle.std.specs.Prelude.{◌≡◌, ◌<◌, IfOk, OnOk, OnErr, Some};
 ghost use Rattle.web_port.specs.Counts.{no_losses};
 ghost use Rattle.web_port.specs.Lanes.{port_of, FlightsKept};
-ghost use Rattle.web_port.specs.Port.{Polls, Waits, heard_of};
+ghost use Rattle.reachability.specs.Web.{heard_at};
+ghost use Rattle.web_port.specs.Port.{Polls, Waits};
 ghost use Rattle.web_port.specs.SiteWeb as spec;
 
 use crate::lanes::Lanes;
@@ -75,8 +76,8 @@ impl SiteLinks {
 }
 
 // What the web of a site answers for the link of a text.
-fn heard_at(alloc: Global, site: &Site, link: &str) -> Result<Heard, Memory>
-    ensures { IfOk result (λ heard. heard ≡ heard_of (spec.web_of_site site.now) link.now) }
+fn site_answer(alloc: Global, site: &Site, link: &str) -> Result<Heard, Memory>
+    ensures { IfOk result (λ heard. heard ≡ heard_at (spec.web_of_site site.now) link.now) }
 {
     match site.get(link) {
         Some(reply) => Ok(Heard::Reply(reply.copy()?)),
@@ -106,7 +107,7 @@ fn answer_first(alloc: Global, flying: &mut Lanes, site: &Site) -> Result<Polled
     if flying.flights().is_empty() {
         return Ok(Polled::Idle);
     }
-    let heard = heard_at(alloc, site, flying.flights()[0].link.as_str())?;
+    let heard = site_answer(alloc, site, flying.flights()[0].link.as_str())?;
     Ok(flying.answer(0, heard))
 }
 
@@ -138,6 +139,7 @@ impl Fetcher for SiteFetcher {
         self.flying.flights().len() < self.lanes as usize
     }
 
+    #[tactic(auto, using(crate::proofs::LanesLemmas::starts_behind))]
     fn start(&mut self, number: u64, link: &Link) -> Result<(), Memory> {
         self.flying.start(number, link.text.copy()?)
     }
@@ -167,9 +169,10 @@ impl Links for SiteLinks {
     type F = SiteFetcher;
 
     ghost use Rattle.std.specs.Prelude.{Some, true};
+    ghost use Rattle.reachability.specs.Web.{heard_at};
     ghost use Rattle.web_port.specs.SiteWeb.{web_of_site};
 
-    ghost web = { λ l. Some (web_of_site l.site) };
+    ghost web = { λ l. Some (heard_at (web_of_site l.site)) };
 
     ghost sure = { λ _. true };
 

@@ -1,13 +1,13 @@
 ghost use Rattle.std.specs.Prelude.{◌≡◌, ◌<◌, ◌≤◌, drop, length, IfOk, OnOk, OnErr};
 ghost use Rattle.web_port.specs.Lanes.{AllBelow};
 ghost use Rattle.web_port.specs.MemoryWeb as spec;
-ghost use Rattle.web_port.specs.Port.{heard_of};
+ghost use Rattle.reachability.specs.Web.{heard_at};
 
 use crate::lanes::Lanes;
 use crate::{Flight, Polled};
 use link_uri::Heard;
 use rdf_terms::{Memory, TextBuf};
-use reach_terms::{Cause, Web};
+use reachability::{Cause, Web};
 
 /// The turn at a place of the list; behind its end it is the first lane's.
 pub fn turn_at(turns: &[u16], at: usize) -> u16
@@ -28,7 +28,7 @@ pub fn place_behind(turns: &[u16], at: usize) -> usize
 
 /// What the web answers for the link of a text.
 fn heard_for<'a>(web: &'a Web, text: &TextBuf) -> &'a Heard
-    ensures { result.now ≡ heard_of web.now text.now }
+    ensures { result.now ≡ heard_at web.now text.now }
 {
     for entry in web.entries.as_slice() {
         if entry.0 == *text {

@@ -1,6 +1,5 @@
 use expr_eval::{CompareOp, Expr, Function};
-use items_core::{Boxed, Items};
-use rdf_terms::{Memory, Term, TextBuf};
+use rdf_terms::{Boxed, Memory, Seq, Term, TextBuf};
 use std::alloc::Global;
 
 fn literal(alloc: Global, lexical: &str, datatype: &str) -> Result<Expr, Memory> {
@@ -36,7 +35,7 @@ fn is_english(alloc: Global, var: u16) -> Result<Expr, Memory> {
 
 /// `?n > 1 && lang(?l) = "en"`, where `?n` is variable 0 and `?l` variable 1.
 pub(crate) fn condition(alloc: Global) -> Result<Expr, Memory> {
-    let mut parts = Items::new(alloc);
+    let mut parts = Seq::new(alloc);
     parts.push(is_more_than_one(alloc, 0)?)?;
     parts.push(is_english(alloc, 1)?)?;
     Ok(Expr::And(parts))

@@ -1,14 +1,34 @@
 use Rattle.std.proofs.Common.{◌≡◌}
-use Rattle.answer_core.specs.declared.status.Status.TheVariants.{Site}
-use Rattle.answer_core.specs.Command.{view}
-use Rattle.answer_core.proofs.Reading.{saw_bad}
+use Rattle.answer_core.specs.declared.status.Status.TheVariants.{Site, Memory}
+use Rattle.answer_core.specs.Command.{IsCommandOf}
+use Rattle.answer_core.specs.Running.{BeforeReport, BytesRead, SiteRead}
+use Rattle.answer_core.specs.Words.{view}
+use Rattle.answer_core.proofs.Evidence.{evidence_as, unrecorded, shows_of}
+use Rattle.answer_core.proofs.Reading.{bytes_read, bad_read, memory_read}
 use Rattle.answer_core.proofs.answer.answer_bytes.Goals as goal
 
-pub returns-in-Err-Bad-clause-saw : goal.returns-in-Err-Bad-clause-saw
-returns-in-Err-Bad-clause-saw g c =
-    let field = c.in-Err-Bad.field-0-is in
-    let at = c.in-Err-Bad.at-is in
-    let told = c.without_record.ensures.0 in
+pub returns-in-Ok : goal.returns-in-Ok
+returns-in-Ok g c =
+    let a = view c.args.arguments in
+    let end = c.answer_query.result in
+    let shows = shows_of g.S.Sink.content g.S.Sink.faults in
+    evidence_as shows (IsCommandOf a) (IsCommandOf a) (BeforeReport (SiteRead a c.in-Ok.site)) (BeforeReport (BytesRead a c.args.bytes)) end.trace c.args.out end.out end.status (λ d is. is)
+    (λ m x. bytes_read a c.in-Ok.site c.args.bytes end.status end.trace c.in-Ok.ensures.site x) c.answer_query.ensures
+
+pub returns-in-Err-Bad : goal.returns-in-Err-Bad
+returns-in-Err-Bad g c =
+    let a = view c.args.arguments in
+    let end = c.without_record.result in
     let bad = c.in-Err-Bad.ensures.bad c.in-Err-Bad.at (cc) in
-    let status : c.without_record.result.status ≡ Site c.in-Err-Bad.at = cc in
-    saw_bad (view c.args.asked) c.without_record.result.status c.without_record.result.trace c.args.bytes.now c.in-Err-Bad.at status bad c.requires.most
+    let status : end.status ≡ Site c.in-Err-Bad.at = cc in
+    let shows = shows_of g.S.Sink.content g.S.Sink.faults in
+    unrecorded shows (IsCommandOf a) (BeforeReport (BytesRead a c.args.bytes)) end.trace c.args.out end.out (Site c.in-Err-Bad.at) end.status status c.without_record.ensures.1 c.without_record.ensures.2 (λ x. x)
+    (bad_read a c.in-Err-Bad.at c.args.bytes bad c.requires.most)
+
+pub returns : goal.returns
+returns g c =
+    let a = view c.args.arguments in
+    let end = c.without_record-in-Err-Memory.result in
+    let none = c.without_record-in-Err-Memory.ensures in
+    let shows = shows_of g.S.Sink.content g.S.Sink.faults in
+    unrecorded shows (IsCommandOf a) (BeforeReport (BytesRead a c.args.bytes)) end.trace c.args.out end.out Memory end.status none.0 none.1 none.2 tt (memory_read a c.args.bytes)

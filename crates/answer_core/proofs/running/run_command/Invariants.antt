@@ -1,5 +1,4 @@
 use Rattle.web_port.specs.SiteWeb.{site_fetch}
-use Rattle.answer_core.specs.Headline.{body_limit}
 use Rattle.answer_core.proofs.running.run_command.Given as goal
 
 abbrev pub ghosts-run_named : goal.ghosts-run_named
@@ -9,8 +8,8 @@ ghosts-run_named g a = record {
     seeds = a.command.seeds;
     criterion = a.command.criterion;
     limit = a.command.limit;
-    body = body_limit;
-    fetch = site_fetch a.site 3;
+    body = a.command.body;
+    fetch = site_fetch a.site a.command.tries;
     content = g.S.Sink.content a.out;
     faults = g.S.Sink.faults a.out;
   };

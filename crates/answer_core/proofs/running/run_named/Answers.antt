@@ -1,18 +1,19 @@
-use Rattle.std.proofs.Common.{sym, ap, subst, ◌∙◌}
-use Rattle.std.specs.Prelude.{IsSome}
-use Rattle.std.proofs.lemmas.Bool.{false≢true}
-use Rattle.link_uri.specs.Links.{AreLinks}
-use Rattle.link_queue.specs.Table.{flying}
-use Rattle.traverse_core.proofs.Kept.{opened_tied}
+use Rattle.std.proofs.Common.{◌≡◌, sym, subst, refl, ◌∙◌}
+use Rattle.traverse_core.specs.Run.{TellsIfSure}
+use Rattle.answer_core.specs.Running.{BeforeReport, CommandRead, RunRead, Writing, command_of}
+use Rattle.answer_core.proofs.Evidence.{evidence_as, shown_by, shows_of}
+use Rattle.answer_core.proofs.Reading.{command_read}
 use Rattle.answer_core.proofs.running.run_named.Goals as goal
 
-pub run_to_end-answer-requires-clause-landed : goal.run_to_end-answer-requires-clause-landed
-run_to_end-answer-requires-clause-landed g c =
-    let own : AreLinks g.J.Job.run.seeds = subst (λ x. AreLinks x.seeds) c.requires.command c.requires.own in
-    ap (λ s. flying s.table) c.in-Ok-open.ensures.ok ∙ sym (opened_tied g.J.Job.run own).counted
+pub open-requires-clause-told : goal.open-requires-clause-told
+open-requires-clause-told g c = subst TellsIfSure (sym c.requires.fetch) (λ sure. refl)
 
-pub returns-in-Ok-open-clause-none : goal.returns-in-Ok-open-clause-none
-returns-in-Ok-open-clause-none g c = λ e. absurd (false≢true (subst IsSome e c.run_to_end-answer.ensures.told))
-
-pub returns-in-Ok-open-clause-untouched : goal.returns-in-Ok-open-clause-untouched
-returns-in-Ok-open-clause-untouched g c = λ e. absurd (false≢true (subst IsSome e c.run_to_end-answer.ensures.told))
+pub returns-in-Ok-open : goal.returns-in-Ok-open
+returns-in-Ok-open g c =
+    let run = g.J.Job.run in
+    let end = c.run_to_end-answer.result in
+    let shows = shows_of g.S.Sink.content g.S.Sink.faults in
+    let before : Writing = record { bytes = run.content; faults = run.faults } in
+    let shown = shown_by shows (λ d. d ≡ command_of run) (BeforeReport (RunRead run)) end.trace before c.args.out end.out end.status c.run_to_end-answer.ensures.read.1.0 c.requires.out.0 c.requires.out.1 c.run_to_end-answer.ensures in
+    evidence_as shows (λ d. d ≡ command_of run) (λ d. d ≡ c.args.command) (BeforeReport (RunRead run)) (BeforeReport (CommandRead c.args.command c.args.site)) end.trace c.args.out end.out end.status (λ d is. is ∙ c.requires.command)
+    (λ m x. command_read run c.args.command c.args.site end.status end.trace c.requires.command c.requires.fetch x) shown

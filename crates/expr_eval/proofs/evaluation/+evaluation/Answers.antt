@@ -4,7 +4,7 @@ use Rattle.value_core.specs.declared.numbers.Number.{Number}
 use Rattle.rdf_terms.specs.declared.term.Term.{Term}
 use Rattle.expr_eval.specs.declared.expr.Expr.{Expr}
 use Rattle.expr_eval.specs.declared.expr.Sign.{Sign}
-use Rattle.expr_eval.specs.Held.{held_value}
+use Rattle.expr_eval.specs.Views.{held_value}
 use Rattle.expr_eval.specs.Value.{value_of, truth_of, number_of_value, of_truth, of_number, with_operand}
 use Rattle.expr_eval.proofs.PartLemmas.{any_from-all, all_from-all, any_past_false, any_past_error, all_past_true, all_past_error}
 use Rattle.expr_eval.proofs.ValueLemmas.{value_of-Or, value_of-And, value_of-Sum}

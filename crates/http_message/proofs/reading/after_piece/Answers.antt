@@ -1,6 +1,6 @@
 use Rattle.std.proofs.Common.{◌≡◌, ◌≤◌, ◌<◌, ◌+◌, ◌++◌, List, ℕ, arith, take, length, subst}
 use Rattle.std.proofs.lemmas.List.{length-take-le}
-use Rattle.http_message.specs.Held.{IsAfterHead, HasReadAt}
+use Rattle.http_message.specs.Views.{IsAfterHead, HasReadAt}
 use Rattle.http_message.proofs.ReadingLemmas.{head_over, head_sound, head_after}
 use Rattle.http_message.proofs.BodyLemmas.{take_take}
 use Rattle.http_message.proofs.reading.after_piece.Goals as goal

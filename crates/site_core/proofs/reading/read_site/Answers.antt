@@ -37,7 +37,7 @@ returns-in-Unended-clause-bad c = λ at e.
     let P : Ending → Type 0 = EndsSo c.args.bytes.now in
     let open_line = subst P c.in-Unended.is c.in_ok-entries.ensures in
     let line = c.in-Unended.line in
-    let bad = leads_bad c.args.bytes.now line.entries.items line.spot line.at open_line.1 (unended_bad line.entries.items line.spot line.at (drop line.at c.args.bytes.now) open_line.2) in
+    let bad = leads_bad c.args.bytes.now line.entries.items line.expected line.at open_line.1 (unended_bad line.entries.items line.expected line.at (drop line.at c.args.bytes.now) open_line.2) in
     let same : line.at ≡ at = sym c.place_of.ensures ∙ (cc) in
     bad_within c.args.bytes.now line.at at c.if-bytes-gt-SITE_LIMIT.false bad same
 

@@ -1,5 +1,5 @@
 use Rattle.std.proofs.Common.{◌≡◌, length, false}
-use Rattle.text_rules.proofs.Reading.{all_more, list_more}
+use Rattle.terminals.proofs.Reading.{all_more, list_more}
 use Rattle.sparql_lexer.specs.Tokens.{HasSpan, IsPlain, QueryTokens, is_last}
 use Rattle.sparql_lexer.proofs.lexing.lex.Goals as goal
 

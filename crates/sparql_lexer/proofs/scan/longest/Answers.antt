@@ -1,7 +1,7 @@
 use Rattle.std.proofs.Common.{None, Some, refl, sym, ◌∙◌, arith, rules, drop, length-drop}
-use Rattle.text_rules.specs.Utf8.{symbols_of}
-use Rattle.text_rules.proofs.Waiting.{start_lost, start_walls, shade_goes_on, walls_go_on, gives_up, stops}
-use Rattle.text_rules.proofs.Loop.{scan_over, scan_goes_on, scan_sticks, lost_over, lost_sticks}
+use Rattle.terminals.specs.Utf8.{symbols_of}
+use Rattle.terminals.proofs.Waiting.{start_lost, start_walls, shade_goes_on, walls_go_on, gives_up, stops}
+use Rattle.terminals.proofs.Loop.{scan_over, scan_goes_on, scan_sticks, lost_over, lost_sticks}
 use Rattle.sparql_lexer.specs.State.{stepped, kind_of, is_waiting}
 use Rattle.sparql_lexer.proofs.Query.{query}
 use Rattle.sparql_lexer.proofs.scan.longest.Goals as goal
@@ -12,7 +12,7 @@ loop-class-init c = record {
   later = omega arith;
   best = tt;
   so_far = search rules;
-  lost = λ lt. start_lost query c.args.from c.args.wall (symbols_of (drop c.args.from c.args.bytes.now)) c.requires.nameless lt;
+  lost = λ lt. start_lost query c.args.from c.args.no_colon_before (symbols_of (drop c.args.from c.args.bytes.now)) c.requires.nameless lt;
   walls = start_walls query c.args.from (symbols_of (drop c.args.from c.args.bytes.now));
 }
 
@@ -50,20 +50,20 @@ returns-in_default-step-clause-found c =
 
 pub returns-in_default-step-clause-nameless : goal.returns-in_default-step-clause-nameless
 returns-in_default-step-clause-nameless c =
-    stops query c.loop-class.state (is_waiting c.loop-class.state) c.loop-class.at c.args.wall c.wall_behind.result c.args.from (symbols_of (drop c.loop-class.at c.args.bytes.now)) (symbols_of (drop c.args.from c.args.bytes.now)) refl c.wall_behind.ensures
+    stops query c.loop-class.state (is_waiting c.loop-class.state) c.loop-class.at c.args.no_colon_before c.no_colon_behind.result c.args.from (symbols_of (drop c.loop-class.at c.args.bytes.now)) (symbols_of (drop c.args.from c.args.bytes.now)) refl c.no_colon_behind.ensures
     (lost_sticks stepped kind_of c.args.bytes.now c.loop-class.at c.in-Some.class c.in-Some.width c.in-Some.ensures.value (omega (arith, c.in-Some.ensures.within)) c.loop-class.state (sym c.step.ensures ∙ c.in_default-step.is))
     c.loop-class.invariant.walls c.requires.nameless
 
 pub returns-then-is_waiting-clause-found : goal.returns-then-is_waiting-clause-found
 returns-then-is_waiting-clause-found c =
     gives_up query c.args.bytes.now c.args.from c.loop-class.at c.in-Some.width c.in-Some.class c.in-Some.ensures.value (omega (arith, c.in-Some.ensures.within)) c.loop-class.state c.in-Some-step.next (sym c.step.ensures ∙ c.in-Some-step.is) c.loop-class.best _
-    (sym c.is_waiting.ensures ∙ c.if-is_waiting.true) (c.loop-class.invariant.lost c.if-from-wall.true) c.loop-class.invariant.so_far
+    (sym c.is_waiting.ensures ∙ c.if-is_waiting.true) (c.loop-class.invariant.lost c.if-from-no_colon_before.true) c.loop-class.invariant.so_far
 
 pub returns-clause-found : goal.returns-clause-found
 returns-clause-found c = scan_over stepped kind_of c.args.bytes.now c.loop-class.at c.loop-class.state c.loop-class.best _ c.in_default.ensures.value c.loop-class.invariant.so_far
 
 pub returns-clause-nameless : goal.returns-clause-nameless
 returns-clause-nameless c =
-    stops query c.loop-class.state (is_waiting c.loop-class.state) c.loop-class.at c.args.wall c.wall_behind-2.result c.args.from (symbols_of (drop c.loop-class.at c.args.bytes.now)) (symbols_of (drop c.args.from c.args.bytes.now)) refl c.wall_behind-2.ensures
+    stops query c.loop-class.state (is_waiting c.loop-class.state) c.loop-class.at c.args.no_colon_before c.no_colon_behind-2.result c.args.from (symbols_of (drop c.loop-class.at c.args.bytes.now)) (symbols_of (drop c.args.from c.args.bytes.now)) refl c.no_colon_behind-2.ensures
     (lost_over stepped kind_of c.args.bytes.now c.loop-class.at c.loop-class.state c.in_default.ensures.value)
     c.loop-class.invariant.walls c.requires.nameless

@@ -1,8 +1,8 @@
 use Rattle.std.proofs.Common.{◌≡◌, ◌≤◌, ◌<◌, ◌-◌, length, drop, None}
 use Rattle.std.specs.Prelude.{IfSome}
-use Rattle.text_rules.specs.Utf8.{symbols_of}
-use Rattle.text_rules.specs.Scan.{scan}
-use Rattle.text_rules.proofs.Waiting.{ShadeLost, WallsBack}
+use Rattle.terminals.specs.Utf8.{symbols_of}
+use Rattle.terminals.specs.Scan.{scan}
+use Rattle.terminals.proofs.Waiting.{ShadeLost, WallsBack}
 use Rattle.sparql_lexer.specs.declared.state.State.TheVariants as states
 use Rattle.sparql_lexer.specs.State.{stepped, kind_of}
 use Rattle.sparql_lexer.proofs.Query.{query}
@@ -14,7 +14,7 @@ invariant-loop-class l = record {
   later : l.from ≤ l.at;
   best : IfSome l.best (λ x. (l.from < x.1) × (x.1 ≤ l.at));
   so_far : scan stepped kind_of l.state l.at l.best (symbols_of (drop l.at l.bytes)) ≡ scan stepped kind_of states.Start l.from None (symbols_of (drop l.from l.bytes));
-  lost : l.from < l.wall → ShadeLost query l.state l.at (symbols_of (drop l.at l.bytes));
+  lost : l.from < l.no_colon_before → ShadeLost query l.state l.at (symbols_of (drop l.at l.bytes));
   walls : WallsBack query l.state l.at (symbols_of (drop l.at l.bytes)) l.from (symbols_of (drop l.from l.bytes));
 }
 

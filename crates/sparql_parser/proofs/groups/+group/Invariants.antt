@@ -1,5 +1,5 @@
 use Rattle.std.proofs.Common.{◌≡◌, ◌<◌, ◌≤◌, ◌+◌, ◌*◌, length}
-use Rattle.query_parts.specs.Held.{view}
+use Rattle.algebra_translation.specs.Views.{view}
 use Rattle.sparql_parser.specs.Grammar.{reads, GroupGraphPatternSub, TriplesOrElements, MoreGroups}
 use Rattle.sparql_parser.proofs.groups.+group.Given as goal
 

@@ -1,5 +1,5 @@
 use Rattle.std.proofs.Common.{◌∙◌, sym}
-use Rattle.query_parts.specs.Held.{view}
+use Rattle.algebra_translation.specs.Views.{view}
 use Rattle.sparql_parser.proofs.Here.{no_triples_here, triples_here}
 use Rattle.sparql_parser.proofs.groups.with_triples.Goals as goal
 

@@ -1,7 +1,7 @@
 use Rattle.std.proofs.Common.{sym, ◌∙◌, subst, arith}
 use Rattle.turtle_lexer.specs.declared.lexing.Next.{Next}
 use Rattle.turtle_lexer.specs.Tokens.{IsNext}
-use Rattle.text_rules.proofs.Reading.{plain_token, read_end, read_ill, read_none, read_token, later, as_allowed, nameless_at, nameless_to}
+use Rattle.terminals.proofs.Reading.{plain_token, read_end, read_ill, read_none, read_token, later, as_allowed, nameless_at, nameless_to}
 use Rattle.turtle_lexer.proofs.Languages.{lexicon, not_last}
 use Rattle.turtle_lexer.proofs.lexing.read.Goals as goal
 
@@ -9,7 +9,7 @@ pub longest-requires-clause-place : goal.longest-requires-clause-place
 longest-requires-clause-place c = c.in-Token.ensures.within
 
 pub longest-requires-clause-nameless : goal.longest-requires-clause-nameless
-longest-requires-clause-nameless c = nameless_at (lexicon c.args.dialect) c.args.bytes.now c.args.from c.in-Token.at c.in-Token.ensures.value c.args.wall c.requires.nameless
+longest-requires-clause-nameless c = nameless_at (lexicon c.args.dialect) c.args.bytes.now c.args.from c.in-Token.at c.in-Token.ensures.value c.args.no_colon_before c.requires.nameless
 
 pub returns-in-End-clause-next : goal.returns-in-End-clause-next
 returns-in-End-clause-next c = subst (λ (n : Next). IsNext c.args.dialect c.args.bytes.now c.args.from n) (sym c.last.ensures) (read_end (lexicon c.args.dialect) c.args.bytes.now c.args.from c.in-End.at c.in-End.ensures.value)

@@ -1,5 +1,5 @@
 use Rattle.std.proofs.Common.{◌≡◌, drop}
-use Rattle.reach_terms.specs.Web.{heard_in}
+use Rattle.reachability.specs.Web.{heard_in}
 use Rattle.web_port.proofs.trying.heard_for.Given as goal
 
 abbrev pub invariant-loop-entry : goal.invariant-loop-entry

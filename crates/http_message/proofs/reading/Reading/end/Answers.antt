@@ -1,7 +1,7 @@
 use Rattle.std.proofs.Common.{◌≡◌, subst, sym, ◌∙◌}
 use Rattle.std.specs.Prelude.{None}
 use Rattle.http_message.specs.declared.reading.Phase.TheVariants as phase
-use Rattle.http_message.specs.Held.{ReadingState, HasRead}
+use Rattle.http_message.specs.Views.{ReadingState, HasRead}
 use Rattle.http_message.specs.Body.{undecided}
 use Rattle.http_message.specs.Reading.{Reads}
 use Rattle.http_message.proofs.ReadingLemmas.{ends_outside}

@@ -1,6 +1,6 @@
 use Rattle.std.proofs.Common.{◌≡◌, ◌++◌, subst, sym, ap, ◌∙◌, refl}
 use Rattle.http_message.specs.declared.reading.Phase.TheVariants as phase
-use Rattle.http_message.specs.Held.{ReadingState, HasRead, HasReadAt}
+use Rattle.http_message.specs.Views.{ReadingState, HasRead, HasReadAt}
 use Rattle.http_message.proofs.ReadingLemmas.{gives_outside, gives_body}
 use Rattle.http_message.proofs.reading.Reading.feed.Goals as goal
 

@@ -1,5 +1,5 @@
 use Rattle.std.proofs.Common.{drop, subst, ◌∙◌, arith, length-drop}
-use Rattle.http_message.specs.Held.{Takes}
+use Rattle.http_message.specs.Views.{Takes}
 use Rattle.http_message.proofs.ReadingLemmas.{takes_more}
 use Rattle.http_message.proofs.reading.Reading.read.Goals as goal
 

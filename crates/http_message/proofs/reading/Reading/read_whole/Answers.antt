@@ -1,5 +1,5 @@
 use Rattle.std.proofs.Common.{length, subst, refl}
-use Rattle.http_message.specs.Held.{IsSound}
+use Rattle.http_message.specs.Views.{IsSound}
 use Rattle.http_message.proofs.ReadingLemmas.{head_sound}
 use Rattle.http_message.proofs.reading.Reading.read_whole.Goals as goal
 

@@ -17,10 +17,10 @@ invariant_of-self-in-None c =
     rw (new, c.in_ok-reserve-in-None.ensures.items) (pushed_table _ _ _ _ _ _ c.self.invariant c.requires f.1 room)
 
 pub returns-in-Some-clause-ok : goal.returns-in-Some-clause-ok
-returns-in-Some-clause-ok c = rw (← c.self.view_is) (found_there c.self.inside.map.entries c.args.link _ c.self.invariant.own c.requires c.in-Some.ensures.index).0
+returns-in-Some-clause-ok c = rw (← c.self.view_is) (found_there c.self.inside.map.entries c.args.link _ c.self.invariant.valid_links c.requires c.in-Some.ensures.index).0
 
 pub returns-in-Some-clause-place : goal.returns-in-Some-clause-place
-returns-in-Some-clause-place c = rw (← c.self.view_is) (found_there c.self.inside.map.entries c.args.link _ c.self.invariant.own c.requires c.in-Some.ensures.index).1
+returns-in-Some-clause-place c = rw (← c.self.view_is) (found_there c.self.inside.map.entries c.args.link _ c.self.invariant.valid_links c.requires c.in-Some.ensures.index).1
 
 pub returns-in_ok-insert-in-None-clause-ok : goal.returns-in_ok-insert-in-None-clause-ok
 returns-in_ok-insert-in-None-clause-ok c =

@@ -1,16 +1,24 @@
 use Rattle.std.proofs.Common.{◌≡◌, ◌∙◌, ap, sym, subst, true, List, []}
 use Rattle.link_queue.specs.Table.{flying, marks, queued_links}
-use Rattle.reach_terms.specs.declared.record.Entry.{Entry}
-use Rattle.reach_terms.specs.Record.{merged_graph}
+use Rattle.reachability.specs.declared.record.Entry.{Entry}
+use Rattle.reachability.specs.Record.{merged_graph}
 use Rattle.algebra_core.specs.Query.{Answers}
-use Rattle.row_writer.specs.Output.{IsClear}
-use Rattle.traverse_core.proofs.Ending.{traversed, ended, reachable, written}
+use Rattle.result_writer.specs.Output.{IsClear}
+use Rattle.traverse_core.proofs.Ending.{traversed, ordered, faithful, ended, reachable, written}
 use Rattle.traverse_core.proofs.traversal.Traversal.finish.Goals as goal
 
 pub returns-clause-traversed : goal.returns-clause-traversed
 returns-clause-traversed g c =
     let landed : flying c.self.inside.table ≡ 0 = rw (ap (λ s. s.table) c.self.view_is) c.requires in
     rw (c.from_vec.ensures, c.from_vec-2.ensures, c.into_queued.ensures) (traversed _ _ landed c.self.invariant.kept)
+
+pub returns-clause-order : goal.returns-clause-order
+returns-clause-order g c =
+    let landed : flying c.self.inside.table ≡ 0 = rw (ap (λ s. s.table) c.self.view_is) c.requires in
+    rw (c.from_vec.ensures, c.from_vec-2.ensures, c.into_queued.ensures) (ordered _ _ landed c.self.invariant.kept)
+
+pub returns-clause-faithful : goal.returns-clause-faithful
+returns-clause-faithful g c = rw c.from_vec.ensures (faithful _ _ c.self.invariant.kept)
 
 pub returns-clause-ended : goal.returns-clause-ended
 returns-clause-ended g c = λ closed.

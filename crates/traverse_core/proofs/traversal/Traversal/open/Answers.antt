@@ -15,5 +15,5 @@ invariant_of-result g c =
     let patterns = c.in-Ok.ensures.patterns ∙ ap patterns_of c.requires.query in
     let names = c.in-Ok.ensures.names ∙ ap selected_names c.requires.query in
     let head = c.in-Ok.ensures.head ∙ ap (λ (q : Query). head_text (selected_names q)) c.requires.query in
-    opened_with _ _ _ _ _ _ _ _ _ c.requires.query c.requires.criterion patterns c.requires.limit (subst AreLinks c.requires.seeds c.requires.own) table c.new-entries.ensures.items c.new-log.ensures
+    opened_with _ _ _ _ _ _ _ _ _ c.requires.query c.requires.criterion patterns c.requires.limit c.requires.told (subst AreLinks c.requires.seeds c.requires.valid_links) table c.new-entries.ensures.items c.new-log.ensures
     (c.new-output.ensures ∙ opened_out g.J.Job.run _ _ _ _ names head c.requires.out.0 c.requires.out.1)

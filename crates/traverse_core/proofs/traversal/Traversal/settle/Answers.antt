@@ -22,6 +22,6 @@ invariant_of-self-2 g c =
     let t : c.in_ok-links.links.items ≡ targets (rule_of g.J.Job.run) c.args.found =
     c.in_ok-links.ensures.links ∙ targets_same g.J.Job.run _ _ _ _ c.as_slice.ensures c.self.invariant.same_criterion c.self.invariant.same_patterns in
     let e : c.as_slice-2.result.now ≡ targets (rule_of g.J.Job.run) c.args.found = c.as_slice-2.ensures.value ∙ t in
-    let own : AreLinks (targets (rule_of g.J.Job.run) c.args.found) = subst AreLinks t c.in_ok-links.ensures.own in
+    let valid_links : AreLinks (targets (rule_of g.J.Job.run) c.args.found) = subst AreLinks t c.in_ok-links.ensures.valid_links in
     rw (c.in_ok-record_found.ensures.table, c.in_ok-record_found.ensures.entries, c.in_ok-record_found.ensures.log, e, c.in_ok-text.ensures)
-    (settled_tied _ _ _ _ _ _ _ _ _ _ c.self.invariant open' at c.get-link.ensures.link dry own (c.requires.may _ l))
+    (settled_tied _ _ _ _ _ _ _ _ _ _ c.self.invariant open' at c.get-link.ensures.link dry valid_links (c.requires.may _ l))

@@ -1,6 +1,0 @@
-use Rattle.std.proofs.Common.{◌≡◌, take}
-use Rattle.algebra_core.specs.Graphs.{extended}
-use Rattle.algebra_core.proofs.evaluation.extend_rows.Given as goal
-
-abbrev pub invariant-loop-row : goal.invariant-loop-row
-invariant-loop-row l = l.all.items ≡ extended l.pattern l.triples (take l.row-index l.rows)

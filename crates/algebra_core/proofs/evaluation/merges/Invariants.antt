@@ -1,6 +1,0 @@
-use Rattle.std.proofs.Common.{◌≡◌, take, flat_map}
-use Rattle.algebra_core.specs.Meaning.{joined}
-use Rattle.algebra_core.proofs.evaluation.merges.Given as goal
-
-abbrev pub invariant-loop-other : goal.invariant-loop-other
-invariant-loop-other l = l.all.items ≡ flat_map (joined l.row) (take l.other-index l.others)

@@ -1,0 +1,8 @@
+mod Values
+mod Numbers
+mod Requests
+mod Sites
+mod Responses
+mod Agreed
+mod Askable
+mod Visible

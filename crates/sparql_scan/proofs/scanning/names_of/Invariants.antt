@@ -1,6 +1,0 @@
-use Rattle.std.proofs.Common.{◌≡◌, [], drop}
-use Rattle.sparql_scan.specs.Scan.{names_from}
-use Rattle.sparql_scan.proofs.scanning.names_of.Given as goal
-
-abbrev pub invariant-loop-token : goal.invariant-loop-token
-invariant-loop-token l = names_from l.names l.bytes (drop l.token-index l.tokens) ≡ names_from [] l.bytes l.tokens

@@ -1,9 +1,0 @@
--- What an IRIREF of a query stands for (SPARQL 1.1, section 4.1.1).
-use Rattle.std.specs.Prelude.{ℕ, List, [], Option, Some, None, if◌then◌else◌}
-use Rattle.iri_core.specs.Reference.{has_scheme}
-use Rattle.token_texts.specs.Iris.{referred_iri}
-
--- the IRI of an IRIREF's text; without a base a relative reference is refused
-abbrev pub iri_of : Option (List ℕ) → List ℕ → Option (List ℕ)
-iri_of (Some base) text = referred_iri base text
-iri_of None text = if has_scheme text then referred_iri [] text else None

@@ -1,0 +1,14 @@
+pub mod Symbols
+pub mod Longest
+pub mod Gaps
+pub mod Waits
+pub mod Loop
+pub mod Unique
+pub mod Existence
+pub mod Spelling
+pub mod Plain
+pub mod Lexicon
+pub mod Waiting
+pub mod Reading
+pub mod Decoding
+pub mod Undoing

@@ -1,9 +1,0 @@
-pub mod Class
-pub mod Utf8
-pub mod Groups
-pub mod Rules
-pub mod Terminals
-pub mod Tokens
-pub mod Scan
-pub mod Gap
-pub mod Values

@@ -1,9 +1,0 @@
-use Rattle.std.proofs.Common.{length}
-use Rattle.token_texts.proofs.Undoing.{Leaves}
-use Rattle.token_texts.proofs.escapes.unescaped.Given as goal
-
-abbrev pub invariant-loop-byte : goal.invariant-loop-byte
-invariant-loop-byte l = Leaves l.out.items l.rest l.bytes
-
-abbrev pub decreases-loop-byte : goal.decreases-loop-byte
-decreases-loop-byte l = length l.rest

@@ -1,6 +1,0 @@
-use Rattle.std.proofs.Common.{◌≡◌, take, map}
-use Rattle.text_rules.specs.Values as value
-use Rattle.token_texts.proofs.texts.lowered.Given as goal
-
-abbrev pub invariant-loop-byte : goal.invariant-loop-byte
-invariant-loop-byte l = l.out.items ≡ map value.lower (take l.byte-index l.bytes)
