@@ -1,5 +1,7 @@
 //! Feeds its input, an HTTP response, to a reading in pieces of so many bytes, so many times (words `feed PIECE TIMES`), or copies
 //! it in such pieces (words `copy PIECE TIMES`): how many bytes came each time, and how many the body or the copy has.
+ghost use Rattle.std.specs.Prelude.{◌<◌};
+
 use crate::fault::Fault;
 use crate::input;
 use http_message::{Ended, Fed, Reading};
@@ -26,42 +28,43 @@ fn ended(reading: &mut Reading) -> Result<usize, Fault> {
     }
 }
 
-fn feed(alloc: Global, bytes: &[u8], piece: usize) -> Result<usize, Fault> {
+fn feed(alloc: Global, bytes: &[u8], piece: usize) -> Result<usize, Fault>
+    requires { 0 < piece }
+{
     let mut reading = Reading::new(alloc, LIMIT);
-    let mut from = 0;
-    while from < bytes.len() && !reading.is_done() {
-        let to = bytes.len().min(from.saturating_add(piece));
-        if let Fed::Done(heard) = reading.feed(&bytes[from..to])? {
+    for part in bytes.chunks(piece) {
+        if reading.is_done() {
+            return Err(Fault::Input);
+        }
+        if let Fed::Done(heard) = reading.feed(part)? {
             return body_of(&heard);
         }
-        from = to;
     }
     ended(&mut reading)
 }
 
-fn copy(alloc: Global, bytes: &[u8], piece: usize) -> Result<usize, Fault> {
+fn copy(alloc: Global, bytes: &[u8], piece: usize) -> Result<usize, Fault>
+    requires { 0 < piece }
+{
     let mut copy = Vec::new(alloc);
-    let mut from = 0;
-    while from < bytes.len() {
-        let to = bytes.len().min(from.saturating_add(piece));
-        copy.extend_from_slice(&bytes[from..to])?;
-        from = to;
+    for part in bytes.chunks(piece) {
+        copy.extend_from_slice(part)?;
     }
     Ok(copy.len())
 }
 
 fn measured(alloc: Global, way: &str, bytes: &[u8], piece: usize) -> Result<usize, Fault> {
     match way {
-        "feed" => feed(alloc, bytes, piece),
-        "copy" => copy(alloc, bytes, piece),
+        "feed" if 0 < piece => feed(alloc, bytes, piece),
+        "copy" if 0 < piece => copy(alloc, bytes, piece),
         _ => Err(Fault::Words),
     }
 }
 
 fn number(word: &str) -> Result<usize, Fault> {
     match word.parse() {
-        Ok(0) | Err(_) => Err(Fault::Words),
         Ok(number) => Ok(number),
+        Err(_) => Err(Fault::Words),
     }
 }
 

@@ -149,7 +149,7 @@ impl LinkTable {
         ensures { IsTrue result ↔ (slice_get self.now number ≡ Some (link.now, InFlight)) }
     {
         match self.map.get_index(number as usize) {
-            Some((valid_links, LinkState::InFlight)) => is_same_link(valid_links, link),
+            Some((queued, LinkState::InFlight)) => is_same_link(queued, link),
             _ => false,
         }
     }

@@ -32,17 +32,18 @@ fn read(alloc: Global, limit: u64, text: &[u8], line: &str) -> Result<String, Me
     let mut from = 0;
     for piece in line.split(' ').skip(2) {
         let to = number(Some(piece)).unwrap_or(text.len()).min(text.len());
-        if from <= to && !reading.is_done() {
-            feed(alloc, &mut reading, &text[from..to], &mut told)?;
+        if let Some(piece) = text.get(from..to) {
+            feed(alloc, &mut reading, piece, &mut told)?;
             from = to;
         }
     }
-    if !reading.is_done() {
-        feed(alloc, &mut reading, &text[from.min(text.len())..], &mut told)?;
-    }
-    if !reading.is_done() {
-        end(alloc, &mut reading, &mut told)?;
-    }
+    feed(
+        alloc,
+        &mut reading,
+        text.get(from..).unwrap_or(&[]),
+        &mut told,
+    )?;
+    end(alloc, &mut reading, &mut told)?;
     Ok(told)
 }
 
