@@ -16,7 +16,7 @@ use Rattle.algebra_core.specs.declared.query.Key.{Key}
 use Rattle.algebra_core.specs.declared.query.Query.{Query}
 use Rattle.algebra_core.specs.Query.{Answers, answers_by, distinct_if, ordered_if, solutions}
 use Rattle.json_results.specs.Results.{head_text, rows_text, tail_text, result_text}
-use Rattle.outer_ports.specs.Causes.{Rose}
+use Rattle.outer_ports.specs.Causes.{RoseOnce}
 use Rattle.result_writer.specs.Output.{due_text, waiting_text}
 use Rattle.site_core.specs.Text.{Entry as SiteEntry}
 use Rattle.web_port.specs.SiteWeb.{told_entry, not_found, web_of_site}
@@ -30,6 +30,7 @@ use Rattle.run_report.specs.Report.{failures}
 use Rattle.traverse_core.specs.declared.alone.Ran.{Ran}
 use Rattle.traverse_core.specs.declared.alone.Ran.TheVariants as ran
 use Rattle.traverse_core.specs.Query.{selected_names}
+use Rattle.traverse_core.specs.Order.{IsOrdered}
 use Rattle.traverse_core.specs.Run.{Run, rule_of, seeds_of}
 use Rattle.traverse_core.specs.State.{State}
 use Rattle.traverse_core.specs.Kept.{IsKept}
@@ -61,10 +62,10 @@ reported ran.Done r e = let both : Ended ≡ Unreported = sym (ended_class r) �
 reported ran.Output r e = absurd (cc)
 reported ran.Memory r e = absurd (cc)
 
-pub counts : (x : Ran) (r : Record) (n m : ℕ) → (x ≡ ran.Output → Rose n m) → (x ≢ ran.Output → m ≡ n) → n ≤ m → CountsFaults (output_fails (ran_status x r)) n m
+pub counts : (x : Ran) (r : Record) (n m : ℕ) → (x ≡ ran.Output → RoseOnce n m) → (x ≢ ran.Output → m ≡ n) → n ≤ m → CountsFaults (output_fails (ran_status x r)) n m
 counts ran.Done r n m rose calm later = subst (λ d. CountsFaults d n m) (sym (output_by r.queued (failures r.entries))) (calm (λ e. absurd (cc)))
 counts ran.Output r n m rose calm later = (rose refl, later)
-counts ran.Memory r n m rose calm later = later
+counts ran.Memory r n m rose calm later = inl (calm (λ e. absurd (cc)))
 
 -- ---- what was written
 
@@ -189,13 +190,13 @@ of_site run site s r entries o k traversed faithful exactly =
 
 -- ---- all of it
 
-pub run_evidence : (run : Run) (r : Record) (x : Ran) (status : Status) (new : Writing) → status ≡ ran_status x r → IsTraversed r (seeds_of run) (rule_of run) run.limit → (x ≡ ran.Done → HasEnded r run.limit)
+pub run_evidence : (run : Run) (r : Record) (x : Ran) (status : Status) (new : Writing) → status ≡ ran_status x r → IsTraversed r (seeds_of run) (rule_of run) run.limit → IsOrdered r run.seeds (rule_of run) → (x ≡ ran.Done → HasEnded r run.limit)
     → ((before : List ℕ) → run.content ≡ Some before → Wrote (command_of run) (class_of (ran_status x r)) r before new.bytes) → CountsFaults (output_fails (ran_status x r)) run.faults new.faults
     → ((site : List SiteEntry) → IsOverSite run site → IsOfSite (command_of run) site r)
     → StatusEvidence writing (λ c. c ≡ command_of run) (BeforeReport (RunRead run)) (Some r) (record { bytes = run.content; faults = run.faults }) new status
-run_evidence run r x status new e traversed ended written faults site = subst (StatusEvidence writing (λ c. c ≡ command_of run) (BeforeReport (RunRead run)) (Some r) (record { bytes = run.content; faults = run.faults }) new) (sym e) (record {
+run_evidence run r x status new e traversed ordered ended written faults site = subst (StatusEvidence writing (λ c. c ≡ command_of run) (BeforeReport (RunRead run)) (Some r) (record { bytes = run.content; faults = run.faults }) new) (sym e) (record {
   recorded = matches x r;
-  traversed = λ c is. subst (λ z. Traversed z (class_of (ran_status x r)) r) (sym is) (traversed, whole_if x r (HasEnded r run.limit) ended);
+  traversed = λ c is. subst (λ z. Traversed z (class_of (ran_status x r)) r) (sym is) (record { traversed = traversed; ordered = ordered; ended = whole_if x r (HasEnded r run.limit) ended });
   written = λ c is before known. subst (λ z. Wrote z (class_of (ran_status x r)) r before new.bytes) (sym is) (written before known);
   untouched = λ none. absurd (cc);
   output_faults = faults;

@@ -65,20 +65,20 @@ written_may c j k (Some r) old new e w = λ before known. wrote_may c j k r befo
 written_may c j k None old new e w = tt
 
 pub traversed_same : (c : Command) (j k : Class) (t : Option Record) → is_whole j ≡ is_whole k → IfSome t (Traversed c j) → IfSome t (Traversed c k)
-traversed_same c j k (Some r) e x = (x.0, subst (λ d. Holds d (HasEnded r c.limit)) e x.1)
+traversed_same c j k (Some r) e x = record { traversed = x.traversed; ordered = x.ordered; ended = subst (λ d. Holds d (HasEnded r c.limit)) e x.ended }
 traversed_same c j k None e x = tt
 
 pub traversed_may : (c : Command) (j k : Class) (t : Option Record) → is_whole k ≡ May → IfSome t (Traversed c j) → IfSome t (Traversed c k)
-traversed_may c j k (Some r) e x = (x.0, subst (λ d. Holds d (HasEnded r c.limit)) (sym e) tt)
+traversed_may c j k (Some r) e x = record { traversed = x.traversed; ordered = x.ordered; ended = subst (λ d. Holds d (HasEnded r c.limit)) (sym e) tt }
 traversed_may c j k None e x = tt
 
 -- ---- counts of faults
 
--- none falls
-pub least : (d : Duty) (n m : ℕ) → CountsFaults d n m → n ≤ m
-least Must n m x = x.1
+-- what counts so may count so
+pub least : (d : Duty) (n m : ℕ) → CountsFaults d n m → CountsFaults May n m
+least Must n m x = inr x
 least May n m x = x
-least Never n m x = omega (arith, x)
+least Never n m x = inl x
 
 -- without a record the output's is as it was
 same_output : (s : Status) (n : ℕ) → StatusMatchesRecord s None → CountsFaults (output_fails s) n n
@@ -89,7 +89,7 @@ same_output (Query at why) n m = refl
 same_output (Site at) n m = refl
 same_output Input n m = refl
 same_output Output n m = absurd m
-same_output Memory n m = omega arith
+same_output Memory n m = inl refl
 same_output Report n m = absurd m
 same_output NotBuilt n m = refl
 
@@ -102,7 +102,7 @@ same_input (Query at why) n m i e = e
 same_input (Site at) n m i e = e
 same_input Input n m i e = absurd (i refl)
 same_input Output n m i e = e
-same_input Memory n m i e = omega (arith, e)
+same_input Memory n m i e = inl e
 same_input Report n m i e = e
 same_input NotBuilt n m i e = e
 

@@ -3,7 +3,7 @@
 -- seed to a link) and `Answers` (rows answer a query over a graph).
 use Rattle.std.specs.Prelude.{ℕ, ◌≡◌, ◌≢◌, ◌<◌, ◌≤◌, ◌+◌, ◌⊎◌, List, [], ◌++◌, Option, Some, None, IfSome, length, take}
 use Rattle.std.specs.Io.KnownBytes.{prepend_known, IsAtEnd}
-use Rattle.outer_ports.specs.Causes.{Rose}
+use Rattle.outer_ports.specs.Causes.{Rose, RoseOnce}
 use Rattle.rows_core.specs.Rows.{Cells}
 use Rattle.rdf_terms.specs.Lists.{IsIn, Apart}
 use Rattle.link_uri.specs.declared.link.Link.{Link}
@@ -19,6 +19,7 @@ use Rattle.reachability.specs.Record.{IsTraversed, IsFaithful, HasEnded, LooksUp
 use Rattle.doc_reader.specs.Outcome.{outcome_of}
 use Rattle.web_port.specs.SiteWeb.{web_of_site}
 use Rattle.traverse_core.specs.Query.{selected_names}
+use Rattle.traverse_core.specs.Order.{IsOrdered}
 use Rattle.answer_core.specs.declared.command.Command.{Command}
 use Rattle.answer_core.specs.Codes.{ended_status}
 use Rattle.answer_core.specs.Command.{Asks, IsCommandOf, rule_of, seeds_of}
@@ -82,10 +83,10 @@ output_fails Output = Must
 output_fails Memory = May
 output_fails status = Never
 
--- a count of faults: it rose, may have risen, or is unchanged; it never falls
+-- a count of the calls that failed: it rose by exactly one, may have risen so, or is unchanged. So a port that failed is not called again
 abbrev pub CountsFaults : Duty → ℕ → ℕ → Type 0
-CountsFaults Must before now = Rose before now × (before ≤ now)
-CountsFaults May before now = before ≤ now
+CountsFaults Must before now = RoseOnce before now × (before ≤ now)
+CountsFaults May before now = (now ≡ before) ⊎ (RoseOnce before now × (before ≤ now))
 CountsFaults Never before now = now ≡ before
 
 -- ---- the record, and what was written
@@ -95,9 +96,12 @@ abbrev pub StatusMatchesRecord : Status → Option Record → Type 0
 StatusMatchesRecord status (Some r) = Holds ((row (class_of status)).has_record) (Unit {0}) × (class_of status ≡ Ended → status ≡ ended_status r)
 StatusMatchesRecord status None = Holds ((row (class_of status)).has_record) ⊥
 
--- the record is closed under the links that it knows, all in it is reachable by them, and where the run came to its end nothing is queued or the limit is reached
-abbrev pub Traversed : Command → Class → Record → Type 0
-Traversed c class r = IsTraversed r (seeds_of c) (rule_of c) c.limit × Holds ((row class).is_whole) (HasEnded r c.limit)
+-- the record is closed under the links that it knows, and all in it is reachable by them; each entry is of a link that was known before it, and the
+-- queued links stand in the order in which they became known; and where the run came to its end nothing is queued or the limit is reached
+pub record Traversed (c : Command) (class : Class) (r : Record) : Type 0 where
+  pub traversed : IsTraversed r (seeds_of c) (rule_of c) c.limit
+  pub ordered : IsOrdered r c.seeds (rule_of c)
+  pub ended : Holds ((row class).is_whole) (HasEnded r c.limit)
 
 -- behind what the output held stand the first `count` bytes of the text of rows that answer the query over the merged graph of the record: the
 -- whole text where the run came to its end, and no more than its head as long as the record hasn't ended

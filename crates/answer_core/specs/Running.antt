@@ -1,7 +1,7 @@
 -- What the parts of the top call tell each other: a run before its report, and how the report turns its status.
 use Rattle.std.specs.Prelude.{ℕ, ◌≡◌, ◌⊎◌, ◌≢◌, ◌≤◌, List, Option, Some, None, IfSome, length}
 use Rattle.std.specs.Io.KnownBytes.{append_known}
-use Rattle.outer_ports.specs.Causes.{Rose}
+use Rattle.outer_ports.specs.Causes.{RoseOnce}
 use Rattle.reachability.specs.declared.record.Record.{Record}
 use Rattle.site_core.specs.Text.{Entry, SiteText, site_limit}
 use Rattle.reachability.specs.Web.{heard_at}
@@ -95,7 +95,7 @@ failed_report status = failed_by (class_of status) status
 abbrev pub WroteReport : Status → Status → List ℕ → Option (List ℕ) → Option (List ℕ) → ℕ → ℕ → Type 0
 WroteReport status now text old new before after =
     ((now ≡ status) × (after ≡ before) × (new ≡ append_known old text))
-    ⊎ (((now ≡ failed_report status) × (Rose before after × (before ≤ after)) × GrewByPrefix old new text) ⊎ ((now ≡ Memory) × (before ≤ after) × GrewByPrefix old new text))
+    ⊎ (((now ≡ failed_report status) × (RoseOnce before after × (before ≤ after)) × GrewByPrefix old new text) ⊎ ((now ≡ Memory) × (after ≡ before) × GrewByPrefix old new text))
 
 -- the status of a query's fault
 abbrev pub fault_status : QueryFault → Status

@@ -2,7 +2,7 @@
 use Rattle.std.specs.Prelude.{◌≡◌, ℕ, ◌<◌, ◌≤◌, List, length, take}
 use Rattle.std.specs.declared.option.Option.{Option}
 use Rattle.std.specs.Io.KnownBytes.{prepend_known, append_known, IsAtEnd, Appends, Consumes, Keeps}
-use Rattle.outer_ports.specs.Causes.{Rose}
+use Rattle.outer_ports.specs.Causes.{Rose, RoseOnce}
 use Rattle.outer_ports.specs.declared.source.Read.{Read}
 use Rattle.outer_ports.specs.declared.source.Read.TheVariants.{Took, End, Failed}
 use Rattle.outer_ports.specs.declared.sink.Wrote.{Wrote}
@@ -20,16 +20,16 @@ CountsEnds old new (Took n) = new ≡ old
 CountsEnds old new End = Rose old new
 CountsEnds old new Failed = new ≡ old
 
--- the count of faults stays where a read does not fail
+-- a read that fails counts one fault, and no other counts any
 abbrev pub ReadFaults : ℕ → ℕ → Read → Type 0
 ReadFaults old new (Took n) = new ≡ old
 ReadFaults old new End = new ≡ old
-ReadFaults old new Failed = Rose old new
+ReadFaults old new Failed = RoseOnce old new
 
--- the count of faults stays where a write does not fail
+-- a write that fails counts one fault, and no other counts any
 abbrev pub WriteFaults : ℕ → ℕ → Wrote → Type 0
 WriteFaults old new (W.Took n) = new ≡ old
-WriteFaults old new W.Failed = Rose old new
+WriteFaults old new W.Failed = RoseOnce old new
 WriteFaults old new W.Memory = new ≡ old
 
 -- Took(n) appended the first n bytes of the piece, any other answer appended nothing

@@ -1,5 +1,5 @@
 ghost use Rattle.std.specs.Prelude.{◌≡◌, ◌<◌, ◌≤◌, ◌+◌, ◌-◌, ◌^◌, ◌↔◌, min, ℕ, List, [], ◌++◌, length, Some};
-ghost use Rattle.outer_ports.specs.Causes.{Rose};
+ghost use Rattle.outer_ports.specs.Causes.{RoseOnce};
 ghost use Rattle.outer_ports.specs.Ports.{Writes, WriteFaults, GivesUpTo};
 
 use crate::{Sink, Wrote};
@@ -64,7 +64,7 @@ impl Sink for MemorySink {
         ensures writes { Writes (Some self.old.content) (Some self.new.content) piece.now result }
         ensures later { self.old.faults ≤ self.new.faults }
         ensures counts { WriteFaults self.old.faults self.new.faults result }
-        ensures cause { result ≡ Wrote.Failed → Rose self.old.faults self.new.faults }
+        ensures cause { result ≡ Wrote.Failed → RoseOnce self.old.faults self.new.faults }
 
         // It fails exactly where no room is left, and else takes as much as there is room for.
         ensures exactly { (result ≡ Wrote.Failed) ↔ (self.old.room ≡ 0) }

@@ -1,5 +1,5 @@
 ghost use Rattle.std.specs.Prelude.{◌≡◌, ◌<◌, ◌≤◌, ◌+◌, ◌-◌, ◌^◌, ◌↔◌, min, ℕ, List, length, Contains, Some, drop, take};
-ghost use Rattle.outer_ports.specs.Causes.{Rose};
+ghost use Rattle.outer_ports.specs.Causes.{RoseOnce};
 ghost use Rattle.outer_ports.specs.Ports.{Reads, CountsEnds, ReadFaults, TakesUpTo};
 
 use crate::piece::{copy_piece, tail};
@@ -76,7 +76,7 @@ impl Source for MemorySource {
         ensures ends { CountsEnds self.old.ends self.new.ends result }
         ensures later { self.old.faults ≤ self.new.faults }
         ensures counts { ReadFaults self.old.faults self.new.faults result }
-        ensures cause { result ≡ Read.Failed → Rose self.old.faults self.new.faults }
+        ensures cause { result ≡ Read.Failed → RoseOnce self.old.faults self.new.faults }
 
         // It fails exactly at the numbered calls, and else takes as much as it may.
         ensures exactly { (result ≡ Read.Failed) ↔ Contains self.old.fail self.old.calls }

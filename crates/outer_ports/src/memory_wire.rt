@@ -244,6 +244,9 @@ impl Wire for MemoryWire {
         ensures cut { (Contains self.old.fail self.old.calls → ⊥) →
             Contains self.old.cut self.old.calls → (result ≡ Received.End)
             × (self.new.counts.faults ≡ one_more self.old.counts.faults) }
+        ensures calm { (Contains self.old.fail self.old.calls → ⊥) →
+            (Contains self.old.cut self.old.calls → ⊥) →
+            self.new.counts.faults ≡ self.old.counts.faults }
         ensures up_to { (o : OpenConn) → open_in self.old.conns conn ≡ Some o →
             ReceivesUpTo self.old.piece (left_of self.old.hosts o) buf.new result }
         ensures ends { (o : OpenConn) → open_in self.old.conns conn ≡ Some o →

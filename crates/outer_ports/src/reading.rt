@@ -1,6 +1,6 @@
 ghost use Rattle.std.specs.Prelude.{◌≡◌, ◌<◌, ◌≤◌, ℕ, List, length, IfOk, OnOk, OnErr};
 ghost use Rattle.std.specs.Io.KnownBytes.{prepend_known, IsAtEnd};
-ghost use Rattle.outer_ports.specs.Causes.{Rose};
+ghost use Rattle.outer_ports.specs.Causes.{Rose, RoseOnce};
 
 use crate::{Read, Source};
 use rdf_terms::ByteBuf;
@@ -17,7 +17,7 @@ pub enum SourceFault {
 
 const ROOM: usize = 16_384;
 
-/// Reads to the End, or until `most` bytes are read. To see whether more than a limit is left, read
+/// Reads to the End, or until `most` bytes are read; a source that failed is not read again. To see whether more than a limit is left, read
 /// one byte more than the limit.
 ///
 /// It costs time linear in the bytes, and at its peak the room of a vector that grows by doubling.
@@ -37,7 +37,8 @@ pub fn read_all<S: Source>(
 
     // A fault has its cause, and some bytes may have been read before it.
     ensures cause { result ≡ Err SourceFault.Failed →
-        Rose (S.faults source.old) (S.faults source.new) }
+        RoseOnce (S.faults source.old) (S.faults source.new) }
+    ensures memory { result ≡ Err SourceFault.Memory → S.faults source.new ≡ S.faults source.old }
     ensures read { OnErr result ((bytes : List ℕ) ×
         (S.left source.old ≡ prepend_known bytes (S.left source.new))) }
 

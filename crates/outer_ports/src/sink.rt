@@ -1,6 +1,6 @@
 ghost use Rattle.std.specs.Prelude.{◌≡◌, ◌<◌, ◌≤◌, ℕ, List, length, None};
 ghost use Rattle.std.specs.declared.option.Option.{Option};
-ghost use Rattle.outer_ports.specs.Causes.{Rose};
+ghost use Rattle.outer_ports.specs.Causes.{RoseOnce};
 ghost use Rattle.outer_ports.specs.Ports.{Writes, WriteFaults};
 
 /// What a write answers.
@@ -30,7 +30,7 @@ pub trait Sink {
         requires { 0 < length piece.now }
         ensures writes { Writes (content self.old) (content self.new) piece.now result }
         ensures later { faults self.old ≤ faults self.new }
-        ensures cause { result ≡ Wrote.Failed → Rose (faults self.old) (faults self.new) }
+        ensures cause { result ≡ Wrote.Failed → RoseOnce (faults self.old) (faults self.new) }
         ensures counts { WriteFaults (faults self.old) (faults self.new) result }
         ensures apart { apart self.new ≡ apart self.old };
 }

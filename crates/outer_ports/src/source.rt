@@ -1,6 +1,6 @@
 ghost use Rattle.std.specs.Prelude.{◌≡◌, ◌<◌, ◌≤◌, ℕ, List, length, None};
 ghost use Rattle.std.specs.declared.option.Option.{Option};
-ghost use Rattle.outer_ports.specs.Causes.{Rose};
+ghost use Rattle.outer_ports.specs.Causes.{RoseOnce};
 ghost use Rattle.outer_ports.specs.Ports.{Reads, CountsEnds, ReadFaults};
 
 /// What a read answers.
@@ -34,7 +34,7 @@ pub trait Source {
         ensures reads { Reads (left self.old) (left self.new) buf.new result }
         ensures ends { CountsEnds (ends self.old) (ends self.new) result }
         ensures later { faults self.old ≤ faults self.new }
-        ensures cause { result ≡ Read.Failed → Rose (faults self.old) (faults self.new) }
+        ensures cause { result ≡ Read.Failed → RoseOnce (faults self.old) (faults self.new) }
         ensures counts { ReadFaults (faults self.old) (faults self.new) result }
         ensures apart { apart self.new ≡ apart self.old };
 }

@@ -1,6 +1,6 @@
 ghost use Rattle.std.specs.Prelude.{◌≡◌, ◌<◌, ◌≤◌, None, IfSome, IfNone, length, ℕ, take};
 ghost use Rattle.std.specs.Io.KnownBytes.{Appends};
-ghost use Rattle.outer_ports.specs.Causes.{Rose};
+ghost use Rattle.outer_ports.specs.Causes.{RoseOnce};
 ghost use Rattle.outer_ports.specs.Ports.{Reads, Writes, CountsEnds, ReadFaults, WriteFaults, ReadsThrough, WritesThrough, AppendsPrefix};
 
 use crate::{Read, Sink, Source, Wrote};
@@ -41,7 +41,7 @@ impl<R: io::Read> Source for ReadSource<R> {
         ensures ends { CountsEnds self.old.ends self.new.ends result }
         ensures later { self.old.faults ≤ self.new.faults }
         ensures counts { ReadFaults self.old.faults self.new.faults result }
-        ensures cause { result ≡ Read.Failed → Rose self.old.faults self.new.faults }
+        ensures cause { result ≡ Read.Failed → RoseOnce self.old.faults self.new.faults }
 
         // What the reader tells of its bytes agrees with the answer.
         ensures through { ReadsThrough
@@ -104,7 +104,7 @@ impl<W: io::Write> Sink for WriteSink<W> {
         ensures writes { Writes None None piece.now result }
         ensures later { self.old.faults ≤ self.new.faults }
         ensures counts { WriteFaults self.old.faults self.new.faults result }
-        ensures cause { result ≡ Wrote.Failed → Rose self.old.faults self.new.faults }
+        ensures cause { result ≡ Wrote.Failed → RoseOnce self.old.faults self.new.faults }
 
         // What the writer tells of its bytes agrees with the answer.
         ensures through { WritesThrough

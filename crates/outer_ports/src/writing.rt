@@ -1,6 +1,6 @@
 ghost use Rattle.std.specs.Prelude.{◌≡◌, ◌≤◌, ℕ, length, take, OnOk, OnErr};
 ghost use Rattle.std.specs.Io.KnownBytes.{append_known};
-ghost use Rattle.outer_ports.specs.Causes.{Rose};
+ghost use Rattle.outer_ports.specs.Causes.{RoseOnce};
 
 use crate::piece::tail;
 use crate::{Sink, Wrote};
@@ -14,12 +14,13 @@ pub enum SinkFault {
     Memory,
 }
 
-/// Writes the whole text, or a prefix of it where it stops with an error.
+/// Writes the whole text, or a prefix of it where it stops with an error. Nothing is written to a sink that failed.
 pub fn write_all<K: Sink>(sink: &mut K, text: &[u8]) -> Result<(), SinkFault>
     ensures whole { OnOk result (K.content sink.new ≡ append_known (K.content sink.old) text.now) }
     ensures prefix { OnErr result ((n : ℕ) × (n ≤ length text.now)
         × (K.content sink.new ≡ append_known (K.content sink.old) (take n text.now))) }
-    ensures cause { result ≡ Err SinkFault.Failed → Rose (K.faults sink.old) (K.faults sink.new) }
+    ensures cause { result ≡ Err SinkFault.Failed → RoseOnce (K.faults sink.old) (K.faults sink.new) }
+    ensures memory { result ≡ Err SinkFault.Memory → K.faults sink.new ≡ K.faults sink.old }
     ensures calm { OnOk result (K.faults sink.new ≡ K.faults sink.old) }
     ensures later { K.faults sink.old ≤ K.faults sink.new }
     ensures apart { K.apart sink.new ≡ K.apart sink.old }

@@ -3,7 +3,7 @@ use Rattle.std.specs.Prelude.{ℕ, ◌≡◌, ◌<◌, ◌≤◌, ◌+◌, ◌==
 use Rattle.std.specs.Io.KnownBytes.{append_known}
 use Rattle.rdf_terms.specs.Lists.{IsIn}
 use Rattle.rows_core.specs.Rows.{Cells}
-use Rattle.outer_ports.specs.Causes.{Rose}
+use Rattle.outer_ports.specs.Causes.{RoseOnce}
 use Rattle.json_results.specs.Results.{head_text, row_text, rows_text, tail_text, result_text}
 use Rattle.result_writer.specs.declared.written.Written.{Written}
 use Rattle.result_writer.specs.declared.written.Written.TheVariants.{Wrote, Clear, Failed}
@@ -85,7 +85,7 @@ pub record KeepsText (o p : Output) : Type 0 where
 abbrev pub Writes : Output → Output → Written → Type 0
 Writes o p Wrote = WritesSome o p
 Writes o p Clear = IsClear o × (p ≡ o)
-Writes o p Failed = KeepsText o p × Rose o.faults p.faults
+Writes o p Failed = KeepsText o p × RoseOnce o.faults p.faults
 
 -- the last rows come behind the others, and no more follow; where none come the tail follows at once
 abbrev pub closed_by : Output → List Cells → Output

@@ -18,3 +18,4 @@ pub mod OpenLines
 pub mod LinksOfBytes
 pub mod Hosts
 pub mod ServedLemmas
+pub mod EachFile

@@ -12,7 +12,7 @@ use Rattle.link_queue.specs.declared.state.LinkState.TheVariants.{Queued, InFlig
 use Rattle.link_queue.specs.Table.{marks, state_at, with_state, first_queued, flying, queue_all}
 use Rattle.link_queue.proofs.Places.{links_with_state, with_state_cases, with_state_other, one_state, link_there, flying_with_state, first_queued_state}
 use Rattle.link_queue.proofs.Growth.{grown, own_queue_all, marks_with_state, state_marks, flying_marks}
-use Rattle.outer_ports.specs.Causes.{Rose}
+use Rattle.outer_ports.specs.Causes.{Rose, RoseOnce}
 use Rattle.rows_core.specs.declared.pattern.TriplePattern.{TriplePattern}
 use Rattle.reach_criteria.specs.declared.criterion.Criterion.{Criterion}
 use Rattle.reachability.specs.declared.record.Entry.{Entry}
@@ -73,6 +73,12 @@ links_restated run rows es n r s nr ns at room k =
     }
 
 -- what is open is not yet complete
+once_least : (a b m : ℕ) → b ≡ min (a + 1) m → min (a + 1) m ≤ b
+once_least a b m e = omega (arith, e)
+
+once_rose : (a b : ℕ) → RoseOnce a b → Rose a b
+once_rose a b e = once_least a b (2 ^ 64 - 1) e
+
 pub stop_open : (run : Run) (s t : State) → t.out.closed ≡ false → s.out.faults ≤ t.out.faults → t.halted ≡ s.halted → StopKept run s → StopKept run t
 stop_open run s t open' later halted k = record {
   landed = λ h. absurd (cc);
@@ -259,7 +265,7 @@ wrote_kept run s t Clear w k = subst (IsKept run) (sym w.1) k
 wrote_kept run s t Failed w k =
     let same = w.0 in
     subst (IsKept run) (sym w.2)
-    (out_kept run s t.out (Some halt.Output) (kept_same s.out t.out same) (λ before e. kept_due before s.out t.out (k.output.due before e) same) same.later (λ e. rose_from run.faults s.out.faults t.out.faults k.stop.risen w.1) k)
+    (out_kept run s t.out (Some halt.Output) (kept_same s.out t.out same) (λ before e. kept_due before s.out t.out (k.output.due before e) same) same.later (λ e. rose_from run.faults s.out.faults t.out.faults k.stop.risen (once_rose s.out.faults t.out.faults w.1)) k)
 
 -- what writing leaves of the table
 pub wrote_table : (s t : State) (w : Written) → WritesOut s t w → t.table ≡ s.table

@@ -1,10 +1,10 @@
 -- What each step leaves of the entries and of the sink's faults, and that writing comes to an end.
-use Rattle.std.proofs.Common.{ℕ, ◌≡◌, ◌+◌, ◌-◌, ◌<◌, ◌≤◌, List, [], ◌∷◌, ◌++◌, Option, Some, None, Bool, true, false, refl, sym, ◌∙◌, ap, subst, arith, length, length-append, append-nil, append_assoc, drop}
+use Rattle.std.proofs.Common.{ℕ, ◌≡◌, ◌+◌, ◌-◌, ◌<◌, ◌≤◌, ◌⊎◌, inl, inr, List, [], ◌∷◌, ◌++◌, Option, Some, None, Bool, true, false, refl, sym, ◌∙◌, ap, subst, arith, length, length-append, append-nil, append_assoc, drop}
 use Rattle.std.specs.Prelude.{◌≢◌, ◌^◌, ◌==◌, ◌&&◌, min, not, is_none, if◌then◌else◌, IsTrue}
 use Rattle.std.proofs.Math.Seq.{drop-append_seam, drop-length}
 use Rattle.std.proofs.lemmas.List.{length-drop, drop-drop}
 use Rattle.std.proofs.lemmas.Bool.Decides.{nat_tests}
-use Rattle.outer_ports.specs.Causes.{Rose}
+use Rattle.outer_ports.specs.Causes.{RoseOnce}
 use Rattle.rows_core.specs.Rows.{Cells}
 use Rattle.reachability.specs.declared.record.Entry.{Entry}
 use Rattle.result_writer.specs.declared.written.Written.{Written}
@@ -18,14 +18,6 @@ use Rattle.traverse_core.specs.State.{State, is_running}
 use Rattle.traverse_core.specs.Steps.{DrawsOne, DrawsOn, with_rows, WritesOut, Closes, halted_by_memory}
 use Rattle.traverse_core.specs.Alone.{RunsOn, SameLinks, entries_since}
 
--- ---- counts that rose
-
-rose_least : (a b c m : ℕ) → a ≤ b → min (b + 1) m ≤ c → min (a + 1) m ≤ c
-rose_least a b c m l h = omega arith
-
-rose_from : (a b c : ℕ) → a ≤ b → Rose b c → Rose a c
-rose_from a b c l h = rose_least a b c (2 ^ 64 - 1) l h
-
 -- ---- entries behind others
 
 behind : {X : Type 0} (xs ys zs : List X) → ys ≡ xs ++ zs → ys ≡ xs ++ drop (length xs) ys
@@ -35,10 +27,10 @@ not_output : (h : Option Halt) → h ≡ None → h ≡ Some halt.Output → ⊥
 not_output h e f = absurd (cc)
 
 -- the same entries, and the run is not halted by output
-pub on_same : (s t : State) → s.halted ≡ None → t.entries ≡ s.entries → s.out.faults ≤ t.out.faults → (t.halted ≡ Some halt.Output → Rose s.out.faults t.out.faults)
+pub on_same : (s t : State) → s.halted ≡ None → t.entries ≡ s.entries → s.out.faults ≤ t.out.faults → (t.halted ≡ Some halt.Output → RoseOnce s.out.faults t.out.faults)
     → (t.halted ≢ Some halt.Output → t.out.faults ≡ s.out.faults) → RunsOn s t
 on_same s t h e l f c =
-    record { entries = behind s.entries t.entries [] (e ∙ sym (append-nil s.entries)); later = l; stays = λ o. absurd (not_output s.halted h o); failed = f; calm = c }
+    record { entries = behind s.entries t.entries [] (e ∙ sym (append-nil s.entries)); later = l; stays = λ o. absurd (not_output s.halted h o); failed = λ n o. f o; quiet = λ o. absurd (not_output s.halted h o); calm = c }
 
 -- the same entries and faults, and the run goes on
 pub on_calm : (s t : State) → s.halted ≡ None → t.halted ≡ None → t.entries ≡ s.entries → t.out.faults ≡ s.out.faults → RunsOn s t
@@ -53,13 +45,24 @@ on_entry s t e h is out halted = record {
   entries = behind s.entries t.entries (e ∷ []) is;
   later = let f = ap (λ (o : Output). o.faults) out in omega arith;
   stays = λ o. absurd (not_output s.halted h o);
-  failed = λ f. absurd (not_output t.halted (halted ∙ h) f);
+  failed = λ n f. absurd (not_output t.halted (halted ∙ h) f);
+  quiet = λ o. absurd (not_output s.halted h o);
   calm = λ o. ap (λ (x : Output). x.faults) out;
 }
 
 -- nothing but the table changes
 pub on_table : (s t : State) → s.halted ≡ None → t ≡ record s { table = t.table } → RunsOn s t
 on_table s t h e = on_calm s t h (ap (λ (x : State). x.halted) e ∙ h) (ap (λ (x : State). x.entries) e) (ap (λ (x : State). x.out.faults) e)
+
+is_output : (h : Option Halt) → (h ≡ Some halt.Output) ⊎ (h ≢ Some halt.Output)
+is_output None = inr (λ e. absurd (cc))
+is_output (Some halt.Output) = inl refl
+is_output (Some halt.Memory) = inr (λ e. absurd (cc))
+
+-- a fault comes in the one part or in the other
+failed_on : (s t u : State) → RunsOn s t → RunsOn t u → s.halted ≢ Some halt.Output → u.halted ≡ Some halt.Output → (t.halted ≡ Some halt.Output) ⊎ (t.halted ≢ Some halt.Output) → RoseOnce s.out.faults u.out.faults
+failed_on s t u a b n o (inl h) = b.quiet h ∙ a.failed n h
+failed_on s t u a b n o (inr h) = subst (λ f. RoseOnce f u.out.faults) (a.calm h) (b.failed h o)
 
 pub runs_on : (s t u : State) → RunsOn s t → RunsOn t u → RunsOn s u
 runs_on s t u a b =
@@ -70,7 +73,8 @@ runs_on s t u a b =
           (b.entries ∙ (ap (λ (l : List Entry). l ++ entries_since t u) a.entries ∙ append_assoc s.entries (entries_since s t) (entries_since t u)));
       later = omega arith;
       stays = λ h. b.stays (a.stays h);
-      failed = λ h. rose_from s.out.faults t.out.faults u.out.faults a.later (b.failed h);
+      failed = λ n o. failed_on s t u a b n o (is_output t.halted);
+      quiet = λ h. b.quiet (a.stays h) ∙ a.quiet h;
       calm = λ h. b.calm h ∙ a.calm (λ o. h (b.stays o));
     }
 
@@ -90,7 +94,8 @@ on_halted s t u e k =
       entries = k.entries;
       later = k.later;
       stays = λ h. still_output t.halted (k.stays h);
-      failed = λ h. k.failed (was_output t.halted h);
+      failed = λ n h. k.failed n (was_output t.halted h);
+      quiet = k.quiet;
       calm = λ h. k.calm (λ o. h (still_output t.halted o));
     })
 

@@ -9,7 +9,7 @@ use Rattle.link_uri.specs.declared.heard.Heard.TheVariants.{Never}
 use Rattle.link_queue.specs.declared.state.LinkState.{LinkState}
 use Rattle.link_queue.specs.declared.state.LinkState.TheVariants.{InFlight}
 use Rattle.link_queue.specs.Table.{link_at, state_at, flying}
-use Rattle.outer_ports.specs.Causes.{Rose}
+use Rattle.outer_ports.specs.Causes.{RoseOnce}
 use Rattle.reachability.specs.declared.outcome.Outcome.TheVariants.{Refused}
 use Rattle.reachability.specs.declared.outcome.Why.TheVariants as why
 use Rattle.reachability.specs.declared.record.Entry.{Entry}
@@ -47,13 +47,15 @@ pub record IsDone (s : State) : Type 0 where
   pub clear : IsClear s.out
   pub whole : s.halted ≡ None
 
--- entries only come, behind the others; a run that is halted by output stays so; the sink's faults
--- rose where the run, which was not halted, is now halted by output, and else they are as they were
+-- entries only come, behind the others; a run that is halted by output stays so, and its sink is not
+-- called again; the sink's faults rose by one where the run, which was not halted by output, is so
+-- now, and else they are as they were
 pub record RunsOn (s t : State) : Type 0 where
   pub entries : t.entries ≡ s.entries ++ entries_since s t
   pub later : s.out.faults ≤ t.out.faults
   pub stays : s.halted ≡ Some halt.Output → t.halted ≡ Some halt.Output
-  pub failed : t.halted ≡ Some halt.Output → Rose s.out.faults t.out.faults
+  pub failed : s.halted ≢ Some halt.Output → t.halted ≡ Some halt.Output → RoseOnce s.out.faults t.out.faults
+  pub quiet : s.halted ≡ Some halt.Output → t.out.faults ≡ s.out.faults
   pub calm : t.halted ≢ Some halt.Output → t.out.faults ≡ s.out.faults
 
 -- the links stand as they did; more may be drawn and written, and the run may be halted

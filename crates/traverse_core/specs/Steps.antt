@@ -8,7 +8,7 @@ use Rattle.link_queue.specs.declared.state.LinkState.{LinkState}
 use Rattle.link_queue.specs.declared.state.LinkState.TheVariants.{Queued, InFlight, Settled}
 use Rattle.link_queue.specs.Table.{state_at, with_state, queue_all}
 use Rattle.rows_core.specs.Rows.{Cells}
-use Rattle.outer_ports.specs.Causes.{Rose}
+use Rattle.outer_ports.specs.Causes.{RoseOnce}
 use Rattle.json_results.specs.Results.{head_text}
 use Rattle.reachability.specs.declared.record.Found.{Found}
 use Rattle.reachability.specs.Reach.{Rule, Text}
@@ -84,7 +84,7 @@ pub record DrawsOn (s t : State) : Type 0 where
 abbrev pub WritesOut : State → State → Written → Type 0
 WritesOut s t Wrote = WritesSome s.out t.out × (t ≡ record s { out = t.out })
 WritesOut s t Clear = IsClear s.out × (t ≡ s)
-WritesOut s t Failed = KeepsText s.out t.out × Rose s.out.faults t.out.faults × (t ≡ record s { out = t.out; halted = Some halt.Output })
+WritesOut s t Failed = KeepsText s.out t.out × RoseOnce s.out.faults t.out.faults × (t ≡ record s { out = t.out; halted = Some halt.Output })
 
 -- close: the rows so far and those that come behind them are the answers over the log, and the tail
 -- follows them

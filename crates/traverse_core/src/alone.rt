@@ -1,7 +1,7 @@
 //! A run by one caller, with one fetcher: it waits for nobody, and returns.
 ghost use Rattle.std.specs.Prelude.{◌≡◌, ◌≢◌, ◌≤◌, ◌↔◌, ◌++◌, [], None, Some, IsTrue, OnOk, OnErr};
 ghost use Rattle.link_queue.specs.Table.{flying};
-ghost use Rattle.outer_ports.specs.Causes.{Rose};
+ghost use Rattle.outer_ports.specs.Causes.{RoseOnce};
 ghost use Rattle.traverse_core.specs.State.{is_running};
 ghost use Rattle.traverse_core.specs.Kept.{IsKept};
 ghost use Rattle.traverse_core.specs.Totals.{Paid, Covered, Totals, StartsExactly, tallies};
@@ -115,7 +115,7 @@ impl<J: Job, S: Sink> Traversal<J, S> {
         ensures ran { (result ≡ Ran.Done) ↔ (self.new.halted ≡ None) }
         ensures done { result ≡ Ran.Done → IsDone self.new }
         ensures output { result ≡ Ran.Output → (self.new.halted ≡ Some Halt.Output)
-            × Rose self.old.out.faults self.new.out.faults }
+            × RoseOnce self.old.out.faults self.new.out.faults }
         ensures memory { result ≡ Ran.Memory → self.new.halted ≡ Some Halt.Memory }
         ensures calm { result ≢ Ran.Output → self.new.out.faults ≡ self.old.out.faults }
         ensures later { self.old.out.faults ≤ self.new.out.faults }

@@ -1,13 +1,16 @@
-ghost use Rattle.std.specs.Prelude.{◌≡◌, ◌<◌, IfOk, OnOk, OnErr, Some};
+ghost use Rattle.std.specs.Prelude.{◌≡◌, ◌<◌, IfOk, OnOk, OnErr, Some, length};
 ghost use Rattle.web_port.specs.Counts.{no_losses};
-ghost use Rattle.web_port.specs.Lanes.{port_of, FlightsKept};
+ghost use Rattle.rdf_terms.specs.Lists.{IsIn};
+ghost use Rattle.link_uri.specs.Links.{IsLink};
+ghost use Rattle.web_port.specs.Flights.{numbers};
+ghost use Rattle.web_port.specs.Lanes.{port_of, started, FlightsKept};
 ghost use Rattle.reachability.specs.Web.{heard_at};
-ghost use Rattle.web_port.specs.Port.{Polls, Waits};
+ghost use Rattle.web_port.specs.Port.{Polls, Waits, Starts, Stays};
 ghost use Rattle.web_port.specs.SiteWeb as spec;
 
 use crate::lanes::Lanes;
 use crate::{FetchSettings, Fetcher, Links, Losses, MakeFault, Polled};
-use link_uri::{Heard, Link, Reply};
+use link_uri::{Heard, Link, Reply, Scheme};
 use rdf_terms::{ByteBuf, Memory};
 use site_core::Site;
 use std::alloc::Global;
@@ -140,7 +143,23 @@ impl Fetcher for SiteFetcher {
     }
 
     #[tactic(auto, using(crate::proofs::LanesLemmas::starts_behind))]
-    fn start(&mut self, number: u64, link: &Link) -> Result<(), Memory> {
+    fn start(&mut self, number: u64, link: &Link) -> Result<(), Memory>
+        requires room { length self.old.flying.flights < self.old.lanes }
+        requires fresh { IsIn (numbers self.old.flying.flights) number → ⊥ }
+        requires link { IsLink link.now }
+        requires plain { link.now.scheme ≡ Scheme.Http }
+        ensures same { (spec.site_fetch self.new.site self.new.tries
+            ≡ spec.site_fetch self.old.site self.old.tries) × (self.new.lanes ≡ self.old.lanes) }
+        ensures ok { OnOk result (Starts (port_of 0 self.old.flying) number link.now.text
+            (port_of 0 self.new.flying)) }
+        ensures err { OnErr result (Stays (port_of 0 self.old.flying) (port_of 0 self.new.flying)) }
+
+        // The link comes last.
+        ensures state { OnOk result (self.new ≡ record self.old {
+          flying = started self.old.flying number link.now.text;
+        }) }
+        ensures unchanged { OnErr result (self.new ≡ self.old) }
+    {
         self.flying.start(number, link.text.copy()?)
     }
 

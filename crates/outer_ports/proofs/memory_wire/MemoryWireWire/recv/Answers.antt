@@ -40,6 +40,13 @@ pub returns-then-count-eq0-clause-counts : goal.returns-then-count-eq0-clause-co
 returns-then-count-eq0-clause-counts c =
     rw (← c.self.view_is) (counts_ended c.self.inside.hosts.items c.self.inside.conns c.args.conn c.self.inside.counts.faults c.self.inside.counts c.end_on-then-count-eq0.new.counts (omega arith) c.end_on-then-count-eq0.ensures.counts)
 
+-- an end that is not to be cut adds none
+pub returns-then-count-eq0-clause-calm : goal.returns-then-count-eq0-clause-calm
+returns-then-count-eq0-clause-calm c = λ unfailed uncut.
+    let is = some_open c.args.self.now.hosts c.args.self.now.conns c.args.conn c.requires.is_open in
+    let there : open_in c.self.inside.conns c.args.conn ≡ Some is.0 = ap (λ (w : Wiring). open_in w.conns c.args.conn) c.self.view_is ∙ is.1 in
+    rw (← c.self.view_is) (ap (λ (w : WireCounts). w.faults) (c.end_on-then-count-eq0.ensures.counts is.0 there))
+
 pub returns-clause-receives : goal.returns-clause-receives
 returns-clause-receives c =
     let o : OpenConn = c.get-open.result.now in

@@ -1,0 +1,14 @@
+//! Laws of the definitions: what is cut makes up the whole, what is written reads back, what is counted stays within its limit.
+//!
+//! Promise: each function's contract is one law over the definitions of the crates below, and its body is empty.
+//! Not here: laws on which a proof stands; they are in the crate of their definition. Nothing stands on this crate, so a law
+//! more costs no other crate's proof.
+#![tactic(auto)]
+
+mod heads;
+mod queries;
+mod references;
+
+pub use crate::heads::only_a_wanted_body_counts;
+pub use crate::queries::a_query_has_fewer_names_than_the_limit;
+pub use crate::references::parts_make_up_the_text;
