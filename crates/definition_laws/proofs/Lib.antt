@@ -1,3 +1,6 @@
-pub mod Heads
+pub mod Unwanted
 pub mod Parts
 pub mod FewNames
+pub mod EachScalar
+pub mod WrittenDigits
+pub mod ReadBack

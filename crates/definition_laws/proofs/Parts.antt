@@ -121,9 +121,9 @@ authority_stands text at within =
     let same : at + 1 + 1 ≡ at + 2 = omega arith in
     part_stands text (codes "//") (is_at text at slash && is_at text (at + 1) slash) at (at + 2) (first_of (codes "/?#") text (at + 2)) within
     (λ h.
-      let w = and_parts (is_at text at slash) (is_at text (at + 1) slash) h in
-      let two = one_after_the_other text (slash ∷ []) (slash ∷ []) at (at + 1) (at + 1 + 1) (mark_stands text at slash w.0) (mark_stands text (at + 1) slash w.1) in
-      up_to_first text (codes "//") (codes "/?#") at (at + 2) (subst (Stands text (codes "//") at) same two))
+    let w = and_parts (is_at text at slash) (is_at text (at + 1) slash) h in
+    let two = one_after_the_other text (slash ∷ []) (slash ∷ []) at (at + 1) (at + 1 + 1) (mark_stands text at slash w.0) (mark_stands text (at + 1) slash w.1) in
+    up_to_first text (codes "//") (codes "/?#") at (at + 2) (subst (Stands text (codes "//") at) same two))
 
 path_stands : (text : List ℕ) (at : ℕ) → at ≤ length text → Stands text (piece_of text (path_at text at)) at (path_at text at).to
 unfolding path_at
@@ -175,9 +175,9 @@ fragment_ends_by text true at e stops = omega arith
 fragment_ends_by text false at e stops =
     elim (cases_lt at (length text)) [
       | inl lt ↦ elim (or_cases (eqb 35 (get_or text at 0)) false (stops lt)) [
-          | inl h ↦ let here = is_at_from text at number_sign lt (eqb-true 35 (get_or text at 0) h) in absurd (cc)
-          | inr h ↦ absurd (cc)
-        ]
+        | inl h ↦ let here = is_at_from text at number_sign lt (eqb-true 35 (get_or text at 0) h) in absurd (cc)
+        | inr h ↦ absurd (cc)
+      ]
       | inr past ↦ past
     ]
 

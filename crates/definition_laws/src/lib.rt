@@ -6,9 +6,13 @@
 #![tactic(auto)]
 
 mod heads;
+mod numbers;
 mod queries;
 mod references;
+mod scalars;
 
 pub use crate::heads::only_a_wanted_body_counts;
+pub use crate::numbers::a_written_number_reads_back;
 pub use crate::queries::a_query_has_fewer_names_than_the_limit;
 pub use crate::references::parts_make_up_the_text;
+pub use crate::scalars::each_scalar_is_decoded;
