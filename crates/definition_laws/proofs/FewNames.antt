@@ -17,7 +17,7 @@ use Rattle.sparql_resolve.specs.Resolving.{bytes_of, name_from, names_from, name
 
 -- ---- a text has no more symbols than bytes
 
-symbols_within : (n : ℕ) (bytes : List ℕ) → length (symbols_upto n bytes) ≤ n
+pub symbols_within : (n : ℕ) (bytes : List ℕ) → length (symbols_upto n bytes) ≤ n
 unfolding symbols_upto
 symbols_within zero bytes = omega arith
 symbols_within (suc n) [] = omega arith
@@ -35,7 +35,7 @@ no_mark_alone : (b : Bool) → may_end (both (cond b Nothing Never) (Then (One i
 no_mark_alone true e = absurd cc
 no_mark_alone false e = absurd cc
 
-names_by_token : (k : QueryKind) (n : ℕ) (xs : List Symbol) (bytes : List ℕ) (names : List (List ℕ)) → IsLongest rule_of xs k n → 2 * length (name_from k bytes names) ≤ 2 * length names + n
+pub names_by_token : (k : QueryKind) (n : ℕ) (xs : List Symbol) (bytes : List ℕ) (names : List (List ℕ)) → IsLongest rule_of xs k n → 2 * length (name_from k bytes names) ≤ 2 * length names + n
 names_by_token kinds.Var zero xs bytes names longest = absurd (let e = longest.allowed in cc)
 names_by_token kinds.Var (suc zero) [] bytes names longest = absurd (let w = longest.within in omega arith)
 names_by_token kinds.Var (suc zero) (x ∷ xs) bytes names longest = absurd (no_mark_alone (is_var_mark x.class) longest.allowed)
@@ -44,7 +44,7 @@ names_by_token _ n xs bytes names longest = omega arith
 
 -- ---- so the names take no more than half of the symbols
 
-names_by_symbols : (c : Bool) (at : ℕ) (xs : List Symbol) (ts : List QueryToken) (bytes : List ℕ) (names : List (List ℕ)) → LexesQuery c at xs ts → 2 * length (names_from names bytes ts) ≤ 2 * length names + length xs
+pub names_by_symbols : (c : Bool) (at : ℕ) (xs : List Symbol) (ts : List QueryToken) (bytes : List ℕ) (names : List (List ℕ)) → LexesQuery c at xs ts → 2 * length (names_from names bytes ts) ≤ 2 * length names + length xs
 unfolding names_from
 names_by_symbols c at [] _ bytes names lexes_end = omega arith
 names_by_symbols false at (x ∷ xs) _ bytes names (lexes_white {ts} is r) = omega (arith, names_by_symbols false _ xs ts bytes names r)

@@ -4,3 +4,4 @@ pub mod FewNames
 pub mod EachScalar
 pub mod WrittenDigits
 pub mod ReadBack
+pub mod FewNumbers
