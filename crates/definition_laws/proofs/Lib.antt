@@ -5,3 +5,4 @@ pub mod EachScalar
 pub mod WrittenDigits
 pub mod ReadBack
 pub mod FewNumbers
+pub mod SelectedNames

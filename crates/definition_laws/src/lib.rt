@@ -14,7 +14,8 @@ mod scalars;
 pub use crate::heads::only_a_wanted_body_counts;
 pub use crate::numbers::a_written_number_reads_back;
 pub use crate::queries::{
-    a_query_has_fewer_names_than_the_limit, no_variable_is_left_without_a_number,
+    a_query_has_fewer_names_than_the_limit, each_selected_variable_has_its_name,
+    no_variable_is_left_without_a_number,
 };
 pub use crate::references::parts_make_up_the_text;
 pub use crate::scalars::each_scalar_is_decoded;

@@ -9,7 +9,7 @@ use Rattle.site_core.specs.declared.expected.Step.{Step}
 use Rattle.site_core.specs.declared.expected.Step.TheVariants.{Misfit, Next, Finished, Body}
 use Rattle.site_core.specs.Fields.{is_lf}
 use Rattle.site_core.specs.Lines.{step}
-use Rattle.site_core.specs.Places.{Answer, Look, On, Reads, Shows, SiteBad, is_lf_at, look, look_behind, look_body, look_line, look_step, reads_end, reads_on}
+use Rattle.site_core.specs.Places.{Answer, Look, On, Reads, SiteBad, is_lf_at, look, look_behind, look_body, look_line, look_step, reads_end, reads_on}
 use Rattle.site_core.specs.Text.{Entry, SiteText, site_limit}
 use Rattle.site_core.proofs.Ends.{split_line}
 use Rattle.site_core.proofs.Sound.{site_from_reads}

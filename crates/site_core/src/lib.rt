@@ -26,7 +26,7 @@ mod writing;
 pub use crate::fault::SiteFault;
 pub use crate::laws::{
     a_fault_has_one_place, a_request_has_one_response, a_site_text_has_no_fault,
-    a_text_has_one_site,
+    a_text_has_one_site, each_file_is_a_site_or_has_a_fault,
 };
 pub use crate::reading::read_site;
 pub use crate::serving::serve;
