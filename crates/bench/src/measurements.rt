@@ -1,7 +1,8 @@
 //! The measurements by their words.
 use crate::fault::Fault;
 use crate::{
-    documents, evaluation, expressions, lexing, messages, queries, reading, settling, site,
+    documents, evaluation, expressions, graphs, joins, lexing, messages, queries, reading,
+    settling, site,
 };
 use std::alloc::Global;
 use std::io::Read;
@@ -21,6 +22,8 @@ pub(crate) fn answer<R: Read + Drop>(
         "documents" => documents::answer(alloc, words, input),
         "queries" => queries::answer(alloc, words, input),
         "evaluation" => evaluation::answer(alloc, words, input),
+        "graphs" => graphs::answer(alloc, words),
+        "joins" => joins::answer(alloc, words),
         "messages" => messages::answer(alloc, words, input),
         "settling" => settling::answer(alloc, words),
         _ => Err(Fault::Words),

@@ -24,7 +24,7 @@ const KNOWN: &str = "SELECT ?b WHERE { ?a <http://v.test/knows> ?b }";
 const RESPONSE: &str =
     "HTTP/1.1 200 OK\r\nContent-Type: text/turtle\r\nTransfer-Encoding: chunked\r\n\r\n3\r\nabc\r\n0\r\n\r\n";
 
-const SAMPLES: [Sample; 17] = [
+const SAMPLES: [Sample; 21] = [
     Sample("reading", &["std"], "a few bytes\n"),
     Sample("site", &["bytes"], SITE),
     Sample("site", &["read"], SITE),
@@ -40,6 +40,10 @@ const SAMPLES: [Sample; 17] = [
     Sample("evaluation", &[KNOWN], PEOPLE),
     Sample("messages", &["feed", "1", "2"], RESPONSE),
     Sample("messages", &["copy", "1", "2"], RESPONSE),
+    Sample("graphs", &["insert", "200"], ""),
+    Sample("graphs", &["po", "200"], ""),
+    Sample("joins", &["feed", "matched", "9"], ""),
+    Sample("joins", &["feed", "one_key", "9"], ""),
     Sample("settling", &["make", "100", "10", "2"], ""),
     Sample("settling", &["settle", "100", "10", "2"], ""),
 ];

@@ -6,3 +6,11 @@ pub mod WrittenDigits
 pub mod ReadBack
 pub mod FewNumbers
 pub mod SelectedNames
+pub mod Matching
+pub mod Letters
+pub mod Undone
+pub mod Characters
+pub mod Texts
+pub mod Strings
+pub mod TurtleTexts
+pub mod QueryTexts

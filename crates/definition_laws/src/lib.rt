@@ -10,6 +10,7 @@ mod numbers;
 mod queries;
 mod references;
 mod scalars;
+mod token_texts;
 
 pub use crate::heads::only_a_wanted_body_counts;
 pub use crate::numbers::a_written_number_reads_back;
@@ -19,3 +20,4 @@ pub use crate::queries::{
 };
 pub use crate::references::parts_make_up_the_text;
 pub use crate::scalars::each_scalar_is_decoded;
+pub use crate::token_texts::{each_token_of_a_query_has_a_text, each_token_of_turtle_has_a_text};
