@@ -15,6 +15,7 @@ use Rattle.answer_core.specs.Headline.{Class, Ended, Halted, NoMemory, Unreporte
 use Rattle.answer_core.specs.Running.{has_record, report_fails}
 use Rattle.answer_core.specs.Queries.{IsRefused}
 use Rattle.answer_core.proofs.Queries.{not_both, one_place, one_reason}
+use Rattle.answer_core.proofs.Reports.{once_rose}
 use Rattle.answer_core.specs.declared.status.QueryWhy.{QueryWhy}
 use Rattle.answer_core.specs.declared.status.Status.{Status}
 use Rattle.answer_core.specs.declared.status.Status.TheVariants.{Ok, Partial, Limit, Query, Site, Input, Output, Memory, Report, NotBuilt}
@@ -45,10 +46,10 @@ complete_of a c Partial t old new e i j n m p q input bytes site of read x f g h
 complete_of a c Limit t old new e i j n m p q input bytes site of read x f g h known text no_read no_write no_report = inl refl
 complete_of a c (Query at reason) t old new e i j n m p q input bytes site of read x f g h known text no_read no_write no_report = absurd (not_both a.query c.query at reason of.query x.refusal.2)
 complete_of a c (Site at) t old new e i j n m p q input bytes site of read x f g h known text no_read no_write no_report = absurd (no_site_fault site input bytes new e at (sym known ∙ read) text x.refusal.0 x.refusal.1)
-complete_of a c Input t old new e i j n m p q input bytes site of read x f g h known text no_read no_write no_report = absurd (no_read f.0)
-complete_of a c Output t old new e i j n m p q input bytes site of read x f g h known text no_read no_write no_report = absurd (no_write g.0)
+complete_of a c Input t old new e i j n m p q input bytes site of read x f g h known text no_read no_write no_report = absurd (no_read (once_rose i j f.0))
+complete_of a c Output t old new e i j n m p q input bytes site of read x f g h known text no_read no_write no_report = absurd (no_write (once_rose n m g.0))
 complete_of a c Memory t old new e i j n m p q input bytes site of read x f g h known text no_read no_write no_report = inr refl
-complete_of a c Report t old new e i j n m p q input bytes site of read x f g h known text no_read no_write no_report = absurd (no_report h.0)
+complete_of a c Report t old new e i j n m p q input bytes site of read x f g h known text no_read no_write no_report = absurd (no_report (once_rose p q h.0))
 complete_of a c NotBuilt t old new e i j n m p q input bytes site of read x f g h known text no_read no_write no_report = absurd x.refusal
 
 pub complete : (asked : Option Arguments) (c : Command) (s : Status) (t : Option Record) (old new : Option (List ℕ)) (counted : Type 0) (i j n m p q : ℕ) (bytes : List ℕ) (site : List Entry)
@@ -75,7 +76,7 @@ refused a Limit t old new e i j input bytes site at reason bad m read x f known 
 refused a (Query here why) t old new e i j input bytes site at reason bad m read x f known text no_read =
     inl (λ k. Query (one_place a.query here at why reason x.refusal.2 bad k) (one_reason a.query here at why reason x.refusal.2 bad k))
 refused a (Site here) t old new e i j input bytes site at reason bad m read x f known text no_read = absurd (no_site_fault site input bytes new e here (sym known ∙ read) text x.refusal.0 x.refusal.1)
-refused a Input t old new e i j input bytes site at reason bad m read x f known text no_read = absurd (no_read f.0)
+refused a Input t old new e i j input bytes site at reason bad m read x f known text no_read = absurd (no_read (once_rose i j f.0))
 refused a Output t old new e i j input bytes site at reason bad m read x f known text no_read = absurd (no_run a Halted Output t input (e × IsAtEnd new) at reason bad refl refl m x.run)
 refused a Memory t old new e i j input bytes site at reason bad m read x f known text no_read = inr refl
 refused a Report t old new e i j input bytes site at reason bad m read x f known text no_read = absurd (no_run a Unreported Report t input (e × IsAtEnd new) at reason bad refl refl m x.run)

@@ -174,7 +174,7 @@ unread (Some xs) = refl
 pub nothing_read : {I : Type 0} (i : Shows I) (ends : I → ℕ) (asked : Option Arguments) (input : I) → BeforeReport (HasRead i ends asked input input) Memory None
 nothing_read i ends asked input = (
   λ e. absurd (cc),
-  record { words = λ e. (inr refl, refl, refl); input = λ a is. ([], unread (i.bytes input), record { run = tt; refusal = tt }); input_faults = omega arith },
+  record { words = λ e. (inr refl, refl, refl); input = λ a is. ([], unread (i.bytes input), record { run = tt; refusal = tt }); input_faults = inl refl },
 )
 
 -- ---- what is asked for

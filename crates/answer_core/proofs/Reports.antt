@@ -1,9 +1,9 @@
 -- From what was written to the report to what it received.
-use Rattle.std.proofs.Common.{ℕ, ◌≡◌, ◌≢◌, ◌≤◌, ◌⊎◌, List, Option, Some, None, inl, inr, refl, sym, ap, subst, ◌∙◌, arith, length, take}
+use Rattle.std.proofs.Common.{ℕ, ◌≡◌, ◌≢◌, ◌≤◌, ◌+◌, ◌-◌, ◌⊎◌, List, Option, Some, None, inl, inr, refl, sym, ap, subst, ◌∙◌, arith, length, take}
 use Rattle.std.specs.Io.KnownBytes.{append_known}
-use Rattle.std.specs.Prelude.{IfSome}
+use Rattle.std.specs.Prelude.{IfSome, ◌^◌, min}
 use Rattle.std.proofs.Math.Seq.{take-length}
-use Rattle.outer_ports.specs.Causes.{Rose}
+use Rattle.outer_ports.specs.Causes.{Rose, RoseOnce}
 use Rattle.reachability.specs.declared.record.Record.{Record}
 use Rattle.answer_core.specs.Codes.{ended_status}
 use Rattle.answer_core.specs.Headline.{Class, Ended, Halted, Refused, NoMemory, Unreported, class_of, CountsFaults, StatusMatchesRecord, ReceivedInstead, Reported}
@@ -26,6 +26,12 @@ whole Unreported P s t old new failed n u x = absurd (u refl)
 
 -- ---- writing it failed
 
+least_rise : (a b m : ℕ) → b ≡ min (a + 1) m → min (a + 1) m ≤ b
+least_rise a b m e = omega (arith, e)
+
+pub once_rose : (a b : ℕ) → RoseOnce a b → Rose a b
+once_rose a b e = least_rise a b (2 ^ 64 - 1) e
+
 replaced : (P : Status → Type 0) (s : Status) (t : Option Record) (old new : Option (List ℕ)) (failed : Type 0) → class_of s ≡ Ended → StatusMatchesRecord s t → ReceivedPrefix s t old new → Reported Unreported P Report t old new failed
 replaced P s (Some r) old new failed e m x = subst (λ z. ReceivedPrefix z (Some r) old new) (m.1 e) x
 replaced P s None old new failed e m x = tt
@@ -42,7 +48,7 @@ pub reported : (s now : Status) (t : Option Record) (text : List ℕ) (old new :
     → WroteReport s now text old new before after → Reported (class_of now) (Is s) now t old new (Rose before after)
 reported s now t text old new before after n u m x (inl w) = subst (λ z. Reported (class_of z) (Is s) z t old new (Rose before after)) (sym w.0) (whole (class_of s) (Is s) s t old new (Rose before after) n u (text, x, w.2))
 reported s now t text old new before after n u m x (inr (inl w)) =
-    subst (λ z. Reported (class_of z) (Is s) z t old new (Rose before after)) (sym w.0) (prefix (class_of s) (Is s) s t old new (Rose before after) refl n u m w.1.0 (text, x, w.2))
+    subst (λ z. Reported (class_of z) (Is s) z t old new (Rose before after)) (sym w.0) (prefix (class_of s) (Is s) s t old new (Rose before after) refl n u m (once_rose before after w.1.0) (text, x, w.2))
 reported s now t text old new before after n u m x (inr (inr w)) =
     subst (λ z. Reported (class_of z) (Is s) z t old new (Rose before after)) (sym w.0) (inr (record { status = s; ran = n; reported = u; shown = refl; begun = (text, x, w.2) }))
 
@@ -68,22 +74,22 @@ reported_as Unreported P Q now t old new failed f x = x
 
 calm : (k : Class) (n m : ℕ) → k ≢ Unreported → m ≡ n → CountsFaults (report_fails k) n m
 calm Ended n m u e = e
-calm Halted n m u e = omega (arith, e)
-calm Refused n m u e = omega (arith, e)
-calm NoMemory n m u e = omega (arith, e)
+calm Halted n m u e = inl e
+calm Refused n m u e = inl e
+calm NoMemory n m u e = inl e
 calm Unreported n m u e = absurd (u refl)
 
-rose : (k : Class) (s : Status) (n m : ℕ) → class_of s ≡ k → k ≢ Unreported → Rose n m × (n ≤ m) → CountsFaults (report_fails (class_of (failed_by k s))) n m
+rose : (k : Class) (s : Status) (n m : ℕ) → class_of s ≡ k → k ≢ Unreported → RoseOnce n m × (n ≤ m) → CountsFaults (report_fails (class_of (failed_by k s))) n m
 rose Ended s n m e u x = x
-rose Halted s n m e u x = subst (λ k. CountsFaults (report_fails k) n m) (sym e) x.1
-rose Refused s n m e u x = subst (λ k. CountsFaults (report_fails k) n m) (sym e) x.1
-rose NoMemory s n m e u x = subst (λ k. CountsFaults (report_fails k) n m) (sym e) x.1
+rose Halted s n m e u x = subst (λ k. CountsFaults (report_fails k) n m) (sym e) (inr x)
+rose Refused s n m e u x = subst (λ k. CountsFaults (report_fails k) n m) (sym e) (inr x)
+rose NoMemory s n m e u x = subst (λ k. CountsFaults (report_fails k) n m) (sym e) (inr x)
 rose Unreported s n m e u x = absurd (u refl)
 
 pub counted : (s now : Status) (text : List ℕ) (old new : Option (List ℕ)) (before after : ℕ) → class_of s ≢ Unreported → WroteReport s now text old new before after → CountsFaults (report_fails (class_of now)) before after
 counted s now text old new before after u (inl w) = subst (λ z. CountsFaults (report_fails (class_of z)) before after) (sym w.0) (calm (class_of s) before after u w.1)
 counted s now text old new before after u (inr (inl w)) = subst (λ z. CountsFaults (report_fails (class_of z)) before after) (sym w.0) (rose (class_of s) s before after refl u w.1)
-counted s now text old new before after u (inr (inr w)) = subst (λ z. CountsFaults (report_fails (class_of z)) before after) (sym w.0) w.1
+counted s now text old new before after u (inr (inr w)) = subst (λ z. CountsFaults (report_fails (class_of z)) before after) (sym w.0) (inl w.1)
 
 -- ---- the status then
 

@@ -1,5 +1,5 @@
 -- What `answer_alone` promises, on one page. Five words of it are said elsewhere after the public standards, and may be taken as given: `HasQuery`
--- (the text is of a query), `SiteText` (the bytes are of a site), `outcome_of` (what a look-up in a web comes to), `IsReachable` (links lead from a
+-- (the text is of a query), `HasSite` (the bytes are of a site), `outcome_of` (what a look-up in a web comes to), `IsReachable` (links lead from a
 -- seed to a link) and `Answers` (rows answer a query over a graph).
 use Rattle.std.specs.Prelude.{ℕ, ◌≡◌, ◌≢◌, ◌<◌, ◌≤◌, ◌+◌, ◌⊎◌, List, [], ◌++◌, Option, Some, None, IfSome, length, take}
 use Rattle.std.specs.Io.KnownBytes.{prepend_known, IsAtEnd}
@@ -9,8 +9,7 @@ use Rattle.rdf_terms.specs.Lists.{IsIn, Apart}
 use Rattle.link_uri.specs.declared.link.Link.{Link}
 use Rattle.json_results.specs.Results.{head_text, result_text}
 use Rattle.algebra_core.specs.Query.{Answers}
-use Rattle.site_core.specs.Text.{Entry, SiteText, site_limit}
-use Rattle.site_core.specs.Places.{SiteBad}
+use Rattle.site_core.specs.Text.{Entry, site_limit}
 use Rattle.reachability.specs.declared.outcome.Outcome.{Outcome}
 use Rattle.reachability.specs.declared.record.Record.{Record}
 use Rattle.reachability.specs.Web.{ToldWeb, heard_at}
@@ -24,6 +23,7 @@ use Rattle.answer_core.specs.declared.command.Command.{Command}
 use Rattle.answer_core.specs.Codes.{ended_status}
 use Rattle.answer_core.specs.Command.{Asks, IsCommandOf, rule_of, seeds_of}
 use Rattle.answer_core.specs.Queries.{IsRefused}
+use Rattle.answer_core.specs.Sites.{Entries, FirstFault, HasSite}
 use Rattle.answer_core.specs.Reported.{GrewByPrefix, Received, ReceivedPrefix, memory_line}
 use Rattle.answer_core.specs.Words.{Arguments}
 use Rattle.answer_core.specs.declared.status.QueryWhy.{QueryWhy}
@@ -146,7 +146,7 @@ pub record RanOver (a : Arguments) (IsMeant : ToldWeb → Type 0) (r : Record) :
 -- the bytes are a site, and the web is that of the site
 pub record IsWebOf (bytes : List ℕ) (web : ToldWeb) : Type 0 where
   pub site : List Entry
-  pub text : SiteText site bytes
+  pub text : HasSite bytes (Entries site)
   pub is : web ≡ heard_at (web_of_site site)
 
 -- no link of the record is unreachable
@@ -157,8 +157,8 @@ NoneUnreached r = (u : Text) → Unreached r.entries u → ⊥
 
 -- what is refused, and where; `ended` is that the input was read to its End
 abbrev pub Refusal : Arguments → Status → List ℕ → Type 0 → Type 0
-Refusal a (Query at why) bytes ended = ended × ((site : List Entry) × SiteText site bytes) × IsRefused a.query at why
-Refusal a (Site at) bytes ended = SiteBad bytes at × (ended ⊎ (length bytes ≡ site_limit + 1))
+Refusal a (Query at why) bytes ended = ended × ((site : List Entry) × HasSite bytes (Entries site)) × IsRefused a.query at why
+Refusal a (Site at) bytes ended = HasSite bytes (FirstFault at) × (ended ⊎ (length bytes ≡ site_limit + 1))
 Refusal a NotBuilt bytes ended = ⊥
 Refusal a status bytes ended = Unit {0}
 
@@ -219,7 +219,7 @@ pub record Promised {I S R : Type 0} (i : Shows I) (ends : I → ℕ) (o : Shows
   pub evidence : StatusEvidence o (Asks asked) (HasRead i ends asked input_old input_new) trace out_old out_new status
   pub report : Reported (class_of status) (StatusEvidence o (Asks asked) (HasRead i ends asked input_old input_new) trace out_old out_new) status trace (p.bytes report_old) (p.bytes report_new) (Rose (p.faults report_old) (p.faults report_new))
   pub report_faults : CountsFaults ((row (class_of status)).report_fails) (p.faults report_old) (p.faults report_new)
-  pub complete : (c : Command) → Asks asked c → (bytes : List ℕ) (site : List Entry) → i.bytes input_old ≡ Some bytes → SiteText site bytes → (Rose (i.faults input_old) (i.faults input_new) → ⊥)
+  pub complete : (c : Command) → Asks asked c → (bytes : List ℕ) (site : List Entry) → i.bytes input_old ≡ Some bytes → HasSite bytes (Entries site) → (Rose (i.faults input_old) (i.faults input_new) → ⊥)
       → (Rose (o.faults out_old) (o.faults out_new) → ⊥) → (Rose (p.faults report_old) (p.faults report_new) → ⊥) → RanToEnd status
-  pub refused : (a : Arguments) → asked ≡ Some a → (at : ℕ) (why : QueryWhy) → IsRefused a.query at why → (bytes : List ℕ) (site : List Entry) → i.bytes input_old ≡ Some bytes → SiteText site bytes
+  pub refused : (a : Arguments) → asked ≡ Some a → (at : ℕ) (why : QueryWhy) → IsRefused a.query at why → (bytes : List ℕ) (site : List Entry) → i.bytes input_old ≡ Some bytes → HasSite bytes (Entries site)
       → (Rose (i.faults input_old) (i.faults input_new) → ⊥) → (status ≡ Query at why) ⊎ (class_of status ≡ NoMemory)

@@ -4,4 +4,5 @@ pub mod Headline
 pub mod Queries
 pub mod Reported
 pub mod Running
+pub mod Sites
 pub mod Words

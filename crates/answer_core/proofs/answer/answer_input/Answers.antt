@@ -40,4 +40,4 @@ returns g c =
     let o = shows_of g.S.Sink.content g.S.Sink.faults in
     let stopped = c.in-Err-Memory.ensures.read in
     unrecorded o (Asks (Some a)) (BeforeReport (HasRead i g.I.Source.ends (Some a) c.args.input.now c.read_all.new.source)) end.trace c.args.out end.out Memory end.status none.0 none.1 none.2
-    tt (stopped_read i g.I.Source.ends a c.args.input.now c.read_all.new.source Memory stopped.0 (inr refl) stopped.1 c.in-Err-Memory.ensures.later)
+    tt (stopped_read i g.I.Source.ends a c.args.input.now c.read_all.new.source Memory stopped.0 (inr refl) stopped.1 (inl (c.in-Err-Memory.ensures.memory (cc))))
