@@ -19,9 +19,13 @@ from ltq_oracle.link import link_of  # noqa: E402
 
 def words_part(words):
     """The first part of the words that is not of the built form, or None."""
-    if words[:2] != ["site", "--criterion"] or words[2:3] not in (["all"], ["none"]):
-        return "the criterion"
-    rest = words[3:]
+    if words[:1] != ["site"]:
+        return "the command"
+    rest = words[1:]
+    if rest[:1] == ["--criterion"]:
+        if rest[1:2] not in (["all"], ["none"], ["match"]):
+            return "the criterion"
+        rest = rest[2:]
     if rest[:1] == ["--limit"]:
         if len(rest) < 2 or not re.fullmatch("[0-9]+", rest[1]) or not 1 <= int(rest[1]) <= 100000:
             return "the limit"

@@ -17,7 +17,7 @@ use Rattle.sparql_parser.specs.declared.fault.QueryFault.TheVariants as faults
 use Rattle.answer_core.specs.Command.{IsCommandOf, asked_if, if_links, links_of}
 use Rattle.answer_core.specs.Headline.{class_of, Unreported, input_fails, CountsFaults, Shows, StatusMatchesRecord, Refusal, InputRead, ReadToEnd, HasRead}
 use Rattle.answer_core.specs.Running.{BeforeReport, BytesRead, CommandRead, IsOfSite, RunRead, SiteRead, command_of, fault_status}
-use Rattle.answer_core.specs.Words.{Arguments, behind_criterion}
+use Rattle.answer_core.specs.Words.{Arguments, behind_command, behind_criterion}
 use Rattle.answer_core.specs.declared.command.Command.{Command}
 use Rattle.answer_core.specs.declared.status.Status.{Status}
 use Rattle.answer_core.specs.declared.status.Status.TheVariants.{Ok, Partial, Limit, Query, Site, Input, Output, Memory, Report, NotBuilt}
@@ -191,3 +191,8 @@ pub fewer : {X : Type 0} (f : X → List ℕ) (c : Option Criterion) (xs : List 
 fewer f c [] l = refl
 fewer f c (x ∷ []) l = refl
 fewer f c (x ∷ y ∷ xs) l = absurd (omega arith)
+
+pub fewer_words : {X : Type 0} (f : X → List ℕ) (xs : List X) → length xs < 2 → None ≡ behind_command (map f xs)
+fewer_words f [] l = refl
+fewer_words f (x ∷ []) l = refl
+fewer_words f (x ∷ y ∷ xs) l = absurd (omega arith)

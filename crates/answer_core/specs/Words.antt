@@ -1,4 +1,4 @@
--- The words that are built so far: `site --criterion all|none [--limit N] --workers 0 QUERY SEED..`
+-- The words that are built so far: `site [--criterion all|none|match] [--limit N] --workers 0 QUERY SEED..`
 -- (docs/FORMATS.md, "The built words").
 use Rattle.std.specs.Prelude.{ℕ, List, [], ◌∷◌, ◌&&◌, Bool, not, ◌==◌, nat_le, length, Option, Some, None, bytes_eq, codes, map, string_bytes, if◌then◌else◌}
 use Rattle.std.specs.List.{list_all}
@@ -22,7 +22,7 @@ abbrev pub view : Held → Arguments
 view a = record { query = a.query.now; seeds = map string_bytes a.seeds.now; criterion = a.criterion; limit = a.limit; body = a.body; tries = a.tries }
 
 abbrev pub criterion_of : List ℕ → Option Criterion
-criterion_of name = if bytes_eq name (codes "all") then Some criterion.All else if bytes_eq name (codes "none") then Some criterion.None else None
+criterion_of name = if bytes_eq name (codes "all") then Some criterion.All else if bytes_eq name (codes "none") then Some criterion.None else if bytes_eq name (codes "match") then Some criterion.Match else None
 
 -- one or more digits
 abbrev pub is_number : List ℕ → Bool
@@ -58,8 +58,13 @@ behind_criterion c (limit ∷ number ∷ rest) =
     if bytes_eq limit (codes "--limit") then behind_limit c (limit_of number) rest else behind_limit c (Some 500) (limit ∷ number ∷ rest)
 behind_criterion c others = None
 
+-- perhaps `--criterion all|none|match`, which is match without it
+abbrev pub behind_command : List (List ℕ) → Option Arguments
+behind_command (option ∷ name ∷ rest) =
+    if bytes_eq option (codes "--criterion") then behind_criterion (criterion_of name) rest else behind_criterion (Some criterion.Match) (option ∷ name ∷ rest)
+behind_command others = None
+
 -- what the words give, where they are of the built form
 abbrev pub arguments_of : List (List ℕ) → Option Arguments
-arguments_of (command ∷ option ∷ name ∷ rest) =
-    if bytes_eq command (codes "site") && bytes_eq option (codes "--criterion") then behind_criterion (criterion_of name) rest else None
-arguments_of others = None
+arguments_of (command ∷ rest) = if bytes_eq command (codes "site") then behind_command rest else None
+arguments_of [] = None

@@ -109,7 +109,7 @@ fn answer_words<I: Source, S: Sink>(
     }
 }
 
-/// Answers the words `site --criterion all|none [--limit N] --workers 0 QUERY SEED..` over the site
+/// Answers the words `site [--criterion all|none|match] [--limit N] --workers 0 QUERY SEED..` over the site
 /// that the input holds: looks up links from the seeds on, writes the answers of the query to `out`,
 /// tells in `report` what was looked up and what failed, and how it ended.
 ///

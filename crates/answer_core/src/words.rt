@@ -31,6 +31,8 @@ fn criterion_of(name: &str) -> Option<Criterion>
         Some(Criterion::All)
     } else if name == "none" {
         Some(Criterion::None)
+    } else if name == "match" {
+        Some(Criterion::Match)
     } else {
         None
     }
@@ -103,16 +105,32 @@ fn behind_criterion(criterion: Option<Criterion>, words: &[String]) -> Option<Ar
     }
 }
 
-/// What the words `site --criterion all|none [--limit N] --workers 0 QUERY SEED..` give, or none
-/// for other words. No memory is taken.
+fn behind_command(words: &[String]) -> Option<Arguments<'_>>
+    ensures value { option_map spec.view result ≡ spec.behind_command (map string_bytes words.now) }
+    ensures tries { IfSome result (λ a. 0 < a.tries) }
+{
+    match words {
+        [option, name, rest @ ..] => {
+            if option.as_str() == "--criterion" {
+                behind_criterion(criterion_of(name.as_str()), rest)
+            } else {
+                behind_criterion(Some(Criterion::Match), words)
+            }
+        }
+        _ => None,
+    }
+}
+
+/// What the words `site [--criterion all|none|match] [--limit N] --workers 0 QUERY SEED..` give, or
+/// none for other words. No memory is taken.
 pub(crate) fn arguments_of(words: &[String]) -> Option<Arguments<'_>>
     ensures value { option_map spec.view result ≡ spec.arguments_of (map string_bytes words.now) }
     ensures tries { IfSome result (λ a. 0 < a.tries) }
 {
     match words {
-        [command, option, name, rest @ ..] => {
-            if command.as_str() == "site" && option.as_str() == "--criterion" {
-                behind_criterion(criterion_of(name.as_str()), rest)
+        [command, rest @ ..] => {
+            if command.as_str() == "site" {
+                behind_command(rest)
             } else {
                 None
             }

@@ -2,6 +2,7 @@
 use link_uri::Link;
 use rdf_terms::{Term, TextBuf, Triple};
 use reach_criteria::{Criterion, links_of};
+use rows_core::{Spot, TriplePattern};
 use std::alloc::Global;
 use std::process::Abort;
 
@@ -71,6 +72,31 @@ fn none_names_nothing(alloc: Global, rt: &impl Abort) -> bool {
     followed(alloc, rt, Criterion::None).is_empty()
 }
 
+// The pattern of what has itself for an object.
+fn pattern(alloc: Global, rt: &impl Abort) -> TriplePattern {
+    let p = iri(alloc, rt, "http://a.test/p");
+    TriplePattern {
+        s: Spot::Var(0),
+        p: Spot::Term(p),
+        o: Spot::Var(0),
+    }
+}
+
+fn are_two(links: &[Link]) -> bool {
+    match links {
+        [a, b] => a.text.as_str() == "http://a.test/1" && b.text.as_str() == "http://a.test/p",
+        _ => false,
+    }
+}
+
+fn match_names_two(alloc: Global, rt: &impl Abort) -> bool {
+    let first = of_iris(alloc, rt, "http://a.test/1", "http://a.test/1");
+    let second = of_iris(alloc, rt, "http://a.test/2", "http://a.test/3");
+    let patterns = [pattern(alloc, rt)];
+    let links = links_of(alloc, &[first, second], Criterion::Match, &patterns).expect(rt, "memory");
+    are_two(links.as_slice())
+}
+
 // Subject, predicate and object in order, each link once, the fragment left out, and nothing for a
 // literal or for another scheme.
 #[test]
@@ -78,4 +104,10 @@ fn names_each_link_once_in_order(rt: HostRuntime) {
     let alloc = rt.alloc();
     assert!(rt; all_names_three(alloc, &rt));
     assert!(rt; none_names_nothing(alloc, &rt));
+}
+
+// A variable that stands twice is bound to one term.
+#[test]
+fn follows_what_matches(rt: HostRuntime) {
+    assert!(rt; match_names_two(rt.alloc(), &rt));
 }

@@ -15,17 +15,21 @@ use Rattle.rdf_terms.proofs.Adding.{any_in, in_any, Tells, grown_all, longer_all
 use Rattle.link_uri.specs.declared.link.Link.{Link}
 use Rattle.link_uri.specs.Links.{same_link, link_text, texts}
 use Rattle.rows_core.specs.declared.pattern.TriplePattern.{TriplePattern}
+use Rattle.rows_core.specs.Patterns.{matches}
+use Rattle.rows_core.proofs.Matching.{test_matches, matches_test}
 use Rattle.reach_criteria.specs.declared.criterion.Criterion.{Criterion}
-use Rattle.reach_criteria.specs.declared.criterion.Criterion.TheVariants.{All, None as Nothing}
+use Rattle.reach_criteria.specs.declared.criterion.Criterion.TheVariants.{All, None as Nothing, Match}
 use Rattle.reach_criteria.specs.Follow.{Selects, Names, IsTarget, named_link, selects, named_links, appearing, links_of}
 
 pub selects_true : (c : Criterion) (ps : List TriplePattern) (t : Triple) → selects c ps t ≡ true → Selects c ps t
 selects_true All ps t h = tt
 selects_true Nothing ps t h = absurd (cc)
+selects_true Match ps t h = let found = any_in (λ p. matches p t) ps h in (found.0, found.1, test_matches found.0 t found.2)
 
 pub true_selects : (c : Criterion) (ps : List TriplePattern) (t : Triple) → Selects c ps t → selects c ps t ≡ true
 true_selects All ps t h = refl
 true_selects Nothing ps t h = absurd h
+true_selects Match ps t h = in_any (λ p. matches p t) ps h.0 h.1 (matches_test h.0 t h.2)
 
 pub selects_Decides : (c : Criterion) (ps : List TriplePattern) (t : Triple) → Decides (selects c ps t) (Selects c ps t)
 selects_Decides c ps t = (selects_true c ps t, true_selects c ps t)

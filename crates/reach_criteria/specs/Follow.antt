@@ -1,8 +1,9 @@
--- Which triples are followed, and the links that they name: the criteria c_All and c_None
+-- Which triples are followed, and the links that they name: the criteria c_All, c_None and c_Match
 -- (after Hartig, SPARQL for a Web of Linked Data: Semantics and Computability, 2012).
 use Rattle.std.specs.Prelude.{ℕ, ◌≡◌, ◌⊎◌, List, [], ◌∷◌, ◌++◌, Option, Some, Bool, true, false, if◌then◌else◌}
 use Rattle.std.specs.declared.option.Option.TheVariants as option
 use Rattle.std.specs.Option.{option_to_list}
+use Rattle.std.specs.List.{list_any}
 use Rattle.rdf_terms.specs.declared.term.Term.{Term}
 use Rattle.rdf_terms.specs.declared.term.Term.TheVariants.{Blank, Iri, Literal}
 use Rattle.rdf_terms.specs.declared.triple.Triple.{Triple}
@@ -10,13 +11,15 @@ use Rattle.rdf_terms.specs.Lists.{IsIn, add_all}
 use Rattle.link_uri.specs.declared.link.Link.{Link}
 use Rattle.link_uri.specs.Links.{link_of, same_link}
 use Rattle.rows_core.specs.declared.pattern.TriplePattern.{TriplePattern}
+use Rattle.rows_core.specs.Patterns.{Matches, matches}
 use Rattle.reach_criteria.specs.declared.criterion.Criterion.{Criterion}
-use Rattle.reach_criteria.specs.declared.criterion.Criterion.TheVariants.{All, None as Nothing}
+use Rattle.reach_criteria.specs.declared.criterion.Criterion.TheVariants.{All, None as Nothing, Match}
 
--- the criterion selects the triple, for the patterns of a query
+-- the criterion selects the triple, for the patterns of a query: every one, none, or those that some pattern matches
 abbrev pub Selects : Criterion → List TriplePattern → Triple → Type 0
 Selects All patterns triple = Unit {0}
 Selects Nothing patterns triple = ⊥
+Selects Match patterns triple = (p : TriplePattern) × IsIn patterns p × Matches p triple
 
 -- the link that a term names, where it is an IRI that has one
 abbrev pub named_link : Term → Option Link
@@ -38,6 +41,7 @@ IsTarget criterion patterns triples text = (t : Triple) × IsIn triples t × Sel
 abbrev pub selects : Criterion → List TriplePattern → Triple → Bool
 selects All patterns triple = true
 selects Nothing patterns triple = false
+selects Match patterns triple = list_any (λ p. matches p triple) patterns
 
 -- the links that a triple names: subject, predicate, object
 abbrev pub named_links : Triple → List Link

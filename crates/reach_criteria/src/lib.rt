@@ -2,7 +2,7 @@
 //!
 //! Promise: `links_of` gives exactly the links of the IRIs of selected triples, each once, in order
 //! of first appearance. The definitions are in `specs/Follow.antt`.
-//! Not here yet: the criterion c_Match. Not here: which links are reachable (`reachability`).
+//! Not here: which links are reachable (`reachability`).
 //!
 //! Want of memory is `Memory` everywhere; after it every argument that was lent is as before.
 #![tactic(auto)]
