@@ -188,6 +188,7 @@ asked_none a l = ap (if_links a) l
 -- ---- lists
 
 pub fewer : {X : Type 0} (f : X → List ℕ) (c : Option Criterion) (xs : List X) → length xs < 2 → None ≡ behind_criterion c (map f xs)
+unfolding behind_criterion
 fewer f c [] l = refl
 fewer f c (x ∷ []) l = refl
 fewer f c (x ∷ y ∷ xs) l = absurd (omega arith)

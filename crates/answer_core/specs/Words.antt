@@ -53,7 +53,7 @@ behind_limit c limit (workers ∷ zero ∷ query ∷ seeds) =
 behind_limit c limit others = None
 
 -- perhaps `--limit N`, which is 500 without it
-abbrev pub behind_criterion : Option Criterion → List (List ℕ) → Option Arguments
+unfoldable pub behind_criterion : Option Criterion → List (List ℕ) → Option Arguments
 behind_criterion c (limit ∷ number ∷ rest) =
     if bytes_eq limit (codes "--limit") then behind_limit c (limit_of number) rest else behind_limit c (Some 500) (limit ∷ number ∷ rest)
 behind_criterion c others = None

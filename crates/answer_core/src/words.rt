@@ -88,6 +88,7 @@ fn behind_limit(
     }
 }
 
+#[tactic(auto, unfolding(crate::specs::Words::behind_criterion))]
 fn behind_criterion(criterion: Option<Criterion>, words: &[String]) -> Option<Arguments<'_>>
     ensures value { option_map spec.view result
         ≡ spec.behind_criterion criterion (map string_bytes words.now) }
