@@ -14,3 +14,4 @@ pub mod Texts
 pub mod Strings
 pub mod TurtleTexts
 pub mod QueryTexts
+pub mod Named

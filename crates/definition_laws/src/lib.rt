@@ -5,6 +5,7 @@
 //! more costs no other crate's proof.
 #![tactic(auto)]
 
+mod directives;
 mod heads;
 mod numbers;
 mod queries;
@@ -12,6 +13,7 @@ mod references;
 mod scalars;
 mod token_texts;
 
+pub use crate::directives::what_a_directive_names_stands_behind_its_word;
 pub use crate::heads::only_a_wanted_body_counts;
 pub use crate::numbers::a_written_number_reads_back;
 pub use crate::queries::{
