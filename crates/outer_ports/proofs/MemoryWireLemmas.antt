@@ -1,14 +1,14 @@
 -- The open connections of a wire in memory, as connections of a wire.
-use Rattle.std.proofs.Common.{ℕ, ◌≡◌, ◌≢◌, ◌⊎◌, ◌+◌, ◌-◌, ◌^◌, ◌<◌, ◌≤◌, List, [], ◌∷◌, ◌++◌, Option, Some, None, IsSome, Bool, true, false, refl, sym, ◌∙◌, ap, subst, inl, inr, arith, length, take, drop}
-use Rattle.std.specs.Prelude.{option_map, Contains, IfSome, min}
+use Rattle.std.proofs.Common.{ℕ, ◌≡◌, ◌+◌, ◌^◌, ◌<◌, ◌≤◌, List, [], ◌∷◌, ◌++◌, Option, Some, None, IsSome, true, false, refl, sym, ◌∙◌, ap, subst, arith, take}
+use Rattle.std.specs.Prelude.{option_map, Contains, IfSome}
 use Rattle.std.proofs.Math.Seq.{take-add}
 use Rattle.std.proofs.lemmas.List.{take-append-drop}
 use Rattle.outer_ports.specs.declared.host.Host.{Host}
 use Rattle.outer_ports.specs.declared.open_conns.OpenConn.{OpenConn}
 use Rattle.outer_ports.specs.declared.wire_counts.WireCounts.{WireCounts}
-use Rattle.outer_ports.specs.Causes.{Rose, one_more}
+use Rattle.outer_ports.specs.Causes.{Rose, RoseOnce, one_more}
 use Rattle.outer_ports.specs.Wire.{Conn, ChangesOnly, Begins, IsTold, response_of, response_to, one_more_first}
-use Rattle.outer_ports.specs.MemoryWire.{open_in, BecomesAt, conn_of, conns_of, is_sure, left_of}
+use Rattle.outer_ports.specs.MemoryWire.{open_in, since_of, BecomesAt, WaitsSince, conn_of, conns_of, is_sure, left_of}
 
 -- ---- from a connection to the open one
 
@@ -57,6 +57,13 @@ took_more hosts os ps n k o buf c e f b g =
     ∙ ap (λ (bs : List ℕ). Some (record (conn_of hosts o) { received = bs })) (take-add o.taken k (response_of hosts o.host o.port o.sent) ∙ ap (λ (bs : List ℕ). (conn_of hosts o).received ++ bs) (sym f))
     ∙ ap (λ (d : Conn). Some (record d { received = d.received ++ take k buf })) same
 
+-- what changes but waits since the same call as before
+pub since_stays : (os ps : List OpenConn) (n : ℕ) (o p : OpenConn) → open_in os n ≡ Some o → BecomesAt os n p ps → p.since ≡ o.since → WaitsSince os n (since_of os n) ps
+since_stays os ps n o p e b s = record {
+  at = ap (option_map (λ (x : OpenConn). x.since)) b.at ∙ ap Some s ∙ sym (ap (option_map (λ (x : OpenConn). x.since)) e);
+  others = b.others;
+}
+
 -- ---- counts
 
 pub rose_one : (n : ℕ) → Rose n (one_more n)
@@ -76,6 +83,14 @@ counts_failed hosts os n old new h c e =
     subst (λ (d : Conn). Rose old.faults new.faults × (new ≡ record old { faults = new.faults; breaks = one_more_first d.broken old.breaks })) (sym is.2) (
     subst (λ (w : WireCounts). Rose old.faults w.faults × (w ≡ record old { faults = w.faults; breaks = one_more_first o.broken old.breaks })) (sym (h o is.1)) (rose_one old.faults, refl)
     )
+
+-- it counts one fault
+pub faults_one : (hosts : List Host) (os : List OpenConn) (n : ℕ) (old new : WireCounts)
+    → ((o : OpenConn) → open_in os n ≡ Some o → new ≡ record old { faults = one_more old.faults; breaks = one_more_first o.broken old.breaks })
+    → IsSome (conns_of hosts os n) → RoseOnce old.faults new.faults
+faults_one hosts os n old new h s =
+    let is = some_open hosts os n s in
+    ap (λ (w : WireCounts). w.faults) (h is.0 is.1)
 
 -- an answered end, before which the faults may have risen
 pub counts_ended : (hosts : List Host) (os : List OpenConn) (n faults : ℕ) (old new : WireCounts)

@@ -1,9 +1,9 @@
 -- The open connections of a wire in memory, where one is opened, changes or is closed.
 use Rattle.std.proofs.Common.{ℕ, zero, suc, ◌≡◌, ◌≢◌, ◌⊎◌, ◌+◌, ◌<◌, ◌≤◌, List, [], ◌∷◌, ◌++◌, Option, Some, None, IsSome, refl, sym, ◌∙◌, ap, subst, inl, inr, arith, length, get_or, set}
-use Rattle.std.specs.Prelude.{if◌then◌else◌, ◌==◌, not, filter, Bool, true, false}
+use Rattle.std.specs.Prelude.{option_map, if◌then◌else◌, ◌==◌, not, filter}
 use Rattle.std.proofs.lemmas.Bool.Decides.{nat_tests}
 use Rattle.outer_ports.specs.declared.open_conns.OpenConn.{OpenConn}
-use Rattle.outer_ports.specs.MemoryWire.{open_in, BecomesAt, AllBelow}
+use Rattle.outer_ports.specs.MemoryWire.{open_in, BecomesAt, NumbersRise, WaitsLongest}
 
 pick : (a n : ℕ) (x y : Option OpenConn) → ((a ≡ n) × ((if a == n then x else y) ≡ x)) ⊎ ((a ≢ n) × ((if a == n then x else y) ≡ y))
 pick a n x y = grind (arith, nat_tests)
@@ -89,12 +89,16 @@ not_empty (x ∷ xs) n s = omega arith
 
 -- ---- one more
 
-pub none_above : (next n : ℕ) (os : List OpenConn) → AllBelow next os → next ≤ n → open_in os n ≡ None
-none_above next n [] a h = refl
-none_above next n (x ∷ xs) a h =
+from_below : (from next : ℕ) (os : List OpenConn) → NumbersRise from next os → from ≤ next
+from_below from next [] a = a
+from_below from next (x ∷ xs) a = let l = a.0 in let r = from_below (x.number + 1) next xs a.1 in omega arith
+
+pub none_above : (from next n : ℕ) (os : List OpenConn) → NumbersRise from next os → next ≤ n → open_in os n ≡ None
+none_above from next n [] a h = refl
+none_above from next n (x ∷ xs) a h =
     elim (open_cases x xs n) [
-      | inl p ↦ let e = p.0 in let b = a.0 in absurd (omega arith)
-      | inr q ↦ q.1 ∙ none_above next n xs a.1 h
+      | inl p ↦ let e = p.0 in let b = from_below (x.number + 1) next xs a.1 in absurd (omega arith)
+      | inr q ↦ q.1 ∙ none_above (x.number + 1) next n xs a.1 h
     ]
 
 pub becomes_push : (os : List OpenConn) (n : ℕ) (o : OpenConn) → open_in os n ≡ None → o.number ≡ n → BecomesAt os n o (os ++ o ∷ [])
@@ -113,29 +117,64 @@ becomes_push (x ∷ xs) n o e f =
           }
     ]
 
--- ---- numbers below the next
+-- ---- numbers that rise
 
-below_more : (next : ℕ) (os : List OpenConn) → AllBelow next os → AllBelow (next + 1) os
-below_more next [] a = tt
-below_more next (x ∷ xs) a = (let b = a.0 in omega arith, below_more next xs a.1)
-
-pub below_push : (next : ℕ) (os : List OpenConn) (o : OpenConn) → AllBelow next os → o.number ≡ next → AllBelow (next + 1) (os ++ o ∷ [])
-below_push next [] o a e = (omega arith, tt)
-below_push next (x ∷ xs) o a e = (let b = a.0 in omega arith, below_push next xs o a.1 e)
-
-pub below_at : (next : ℕ) (os : List OpenConn) (i : ℕ) (d : OpenConn) → AllBelow next os → i < length os → (get_or os i d).number < next
-below_at next [] i d a h = absurd (omega arith)
-below_at next (x ∷ xs) zero d a h = a.0
-below_at next (x ∷ xs) (suc i) d a h = below_at next xs i d a.1 (omega arith)
-
-pub below_set : (next : ℕ) (os : List OpenConn) (i : ℕ) (o : OpenConn) → AllBelow next os → o.number < next → AllBelow next (set os i o)
-below_set next [] i o a h = a
-below_set next (x ∷ xs) zero o a h = (h, a.1)
-below_set next (x ∷ xs) (suc i) o a h = (a.0, below_set next xs i o a.1 h)
+pub rise_push : (from next : ℕ) (os : List OpenConn) (o : OpenConn) → NumbersRise from next os → o.number ≡ next → NumbersRise from (next + 1) (os ++ o ∷ [])
+rise_push from next [] o a e = (omega arith, omega arith)
+rise_push from next (x ∷ xs) o a e = (a.0, rise_push (x.number + 1) next xs o a.1 e)
 
 -- a changed connection keeps its number
-pub kept_set : (next : ℕ) (os : List OpenConn) (i : ℕ) (o : OpenConn) → AllBelow next os → i < length os → o.number ≡ (get_or os i o).number → AllBelow next (set os i o)
-kept_set next os i o a h e = below_set next os i o a (let b = below_at next os i o a h in omega arith)
+pub rise_set : (from next : ℕ) (os : List OpenConn) (i : ℕ) (o : OpenConn) → NumbersRise from next os → i < length os → o.number ≡ (get_or os i o).number → NumbersRise from next (set os i o)
+rise_set from next [] i o a h e = absurd (omega arith)
+rise_set from next (x ∷ xs) zero o a h e = subst (λ (n : ℕ). (from ≤ n) × NumbersRise (n + 1) next xs) (sym e) a
+rise_set from next (x ∷ xs) (suc i) o a h e = (a.0, rise_set (x.number + 1) next xs i o a.1 (omega arith) e)
+
+rise_from : (low from next : ℕ) (os : List OpenConn) → low ≤ from → NumbersRise from next os → NumbersRise low next os
+rise_from low from next [] l a = omega arith
+rise_from low from next (x ∷ xs) l a = (let b = a.0 in omega arith, a.1)
+
+at_least : (from next : ℕ) (os : List OpenConn) (i : ℕ) (d : OpenConn) → NumbersRise from next os → i < length os → from ≤ (get_or os i d).number
+at_least from next [] i d a h = absurd (omega arith)
+at_least from next (x ∷ xs) zero d a h = a.0
+at_least from next (x ∷ xs) (suc i) d a h = let l = a.0 in let r = at_least (x.number + 1) next xs i d a.1 (omega arith) in omega arith
+
+-- each is the open connection of its number
+own_number : (from next : ℕ) (os : List OpenConn) (i : ℕ) (d : OpenConn) → NumbersRise from next os → i < length os → open_in os (get_or os i d).number ≡ Some (get_or os i d)
+own_number from next [] i d a h = absurd (omega arith)
+own_number from next (x ∷ xs) zero d a h = elim (open_cases x xs x.number) [ inl p ↦ p.1 | inr q ↦ absurd (q.0 refl) ]
+own_number from next (x ∷ xs) (suc i) d a h =
+    elim (open_cases x xs (get_or xs i d).number) [
+      | inl p ↦ let e = p.0 in let l = at_least (x.number + 1) next xs i d a.1 (omega arith) in absurd (omega arith)
+      | inr q ↦ q.1 ∙ own_number (x.number + 1) next xs i d a.1 (omega arith)
+    ]
+
+-- ---- who waits longest
+
+place_in : (os : List OpenConn) (k : ℕ) (o d : OpenConn) → open_in os k ≡ Some o → (i : ℕ) × (i < length os) × (get_or os i d ≡ o)
+place_in [] k o d e = absurd (cc (e))
+place_in (x ∷ xs) k o d e =
+    elim (open_cases x xs k) [
+      | inl p ↦ (zero, omega arith, cc (p.1, e))
+      | inr q ↦ let r = place_in xs k o d (sym q.1 ∙ e) in (suc r.0, let l = r.1 in omega arith, r.2)
+    ]
+
+open_since : (r : Option OpenConn) (since : ℕ) → option_map (λ (o : OpenConn). o.since) r ≡ Some since → (o : OpenConn) × (r ≡ Some o) × (since ≡ o.since)
+open_since None since e = absurd (cc (e))
+open_since (Some o) since e = (o, refl, cc (e))
+
+-- where none waits since an earlier call at any place, none does under any number
+pub waits_longest : (next : ℕ) (os : List OpenConn) (i : ℕ) (d : OpenConn) → NumbersRise 0 next os → i < length os
+    → ((k : ℕ) (y : OpenConn) → k < length os → (get_or os i y).since ≤ (get_or os k y).since)
+    → WaitsLongest os (get_or os i d).number
+waits_longest next os i d a h least = record {
+  since = (get_or os i d).since;
+  is_open = ap (option_map (λ (o : OpenConn). o.since)) (own_number 0 next os i d a h);
+  longest = λ k since e.
+      let is = open_since (open_in os k) since e in
+      let at = place_in os k is.0 d is.1 in
+      let l : (get_or os i d).since ≤ is.0.since = subst (λ (o : OpenConn). (get_or os i d).since ≤ o.since) at.2 (least at.0 d at.1) in
+      subst (λ (s : ℕ). (get_or os i d).since ≤ s) (sym is.2) l;
+}
 
 -- ---- without one
 
@@ -171,10 +210,10 @@ others_stay (x ∷ xs) n k ne =
       | inr q ↦ subst (λ (ps : List OpenConn). open_in ps k ≡ open_in (x ∷ xs) k) (sym q.1) (under x (others_of n xs) xs k (others_stay xs n k ne))
     ]
 
-pub below_others : (next n : ℕ) (os : List OpenConn) → AllBelow next os → AllBelow next (others_of n os)
-below_others next n [] a = tt
-below_others next n (x ∷ xs) a =
+pub rise_others : (from next n : ℕ) (os : List OpenConn) → NumbersRise from next os → NumbersRise from next (others_of n os)
+rise_others from next n [] a = a
+rise_others from next n (x ∷ xs) a =
     elim (others_cases x xs n) [
-      | inl p ↦ subst (λ (ps : List OpenConn). AllBelow next ps) (sym p.1) (below_others next n xs a.1)
-      | inr q ↦ subst (λ (ps : List OpenConn). AllBelow next ps) (sym q.1) (a.0, below_others next n xs a.1)
+      | inl p ↦ subst (λ (ps : List OpenConn). NumbersRise from next ps) (sym p.1) (rise_from from (x.number + 1) next (others_of n xs) (let l = a.0 in omega arith) (rise_others (x.number + 1) next n xs a.1))
+      | inr q ↦ subst (λ (ps : List OpenConn). NumbersRise from next ps) (sym q.1) (a.0, rise_others (x.number + 1) next n xs a.1)
     ]

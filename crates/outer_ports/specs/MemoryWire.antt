@@ -1,12 +1,16 @@
 -- What a wire in memory is seen as.
-use Rattle.std.specs.Prelude.{ℕ, ◌≡◌, ◌≢◌, ◌+◌, ◌-◌, ◌^◌, ◌==◌, ◌<◌, ◌≤◌, min, List, [], ◌∷◌, ◌++◌, length, take, drop, Contains, get_or, Option, Some, None, option_map, Bool, true, false, if◌then◌else◌}
+use Rattle.std.specs.Prelude.{ℕ, ◌≡◌, ◌≢◌, ◌+◌, ◌==◌, ◌≤◌, min, List, [], ◌∷◌, length, take, drop, Option, Some, None, option_map, Bool, true, false, if◌then◌else◌}
 use Rattle.outer_ports.specs.declared.host.Host.{Host}
 use Rattle.outer_ports.specs.declared.open_conns.OpenConn.{OpenConn}
 use Rattle.outer_ports.specs.declared.wire_counts.WireCounts.{WireCounts}
+use Rattle.outer_ports.specs.declared.wire.Opened.{Opened}
+use Rattle.outer_ports.specs.declared.wire.Opened.TheVariants as O
 use Rattle.outer_ports.specs.declared.wire.Sent.{Sent}
 use Rattle.outer_ports.specs.declared.wire.Sent.TheVariants as S
 use Rattle.outer_ports.specs.declared.wire.Received.{Received}
 use Rattle.outer_ports.specs.declared.wire.Received.TheVariants as R
+use Rattle.outer_ports.specs.declared.wire.Waited.{Waited}
+use Rattle.outer_ports.specs.declared.wire.Waited.TheVariants as W
 use Rattle.outer_ports.specs.Wire.{Conn, Conns, response_of}
 
 -- the hosts, the most bytes a call, the numbers of the calls that fail, end early or are quiet, the
@@ -37,17 +41,38 @@ pub record BecomesAt (old : List OpenConn) (number : ℕ) (o : OpenConn) (new : 
   pub at : open_in new number ≡ Some o
   pub others : (k : ℕ) → k ≢ number → open_in new k ≡ open_in old k
 
--- the number of each is below this one
-abbrev pub AllBelow : ℕ → List OpenConn → Type 0
-AllBelow next [] = Unit {0}
-AllBelow next (o ∷ os) = (o.number < next) × AllBelow next os
+-- the numbers rise, from the one on, and are below the other: so none stands twice
+abbrev pub NumbersRise : ℕ → ℕ → List OpenConn → Type 0
+NumbersRise from next [] = from ≤ next
+NumbersRise from next (o ∷ os) = (from ≤ o.number) × NumbersRise (o.number + 1) next os
 
--- an open connection of the number waits longest: none was opened or named last before it
+-- ---- who waits since when
+
+-- the number of the call since which the open connection of a number waits: that which opened it or named it last
+abbrev pub since_of : List OpenConn → ℕ → Option ℕ
+since_of os number = option_map (λ o. o.since) (open_in os number)
+
+-- the open connection of the number waits since this call then, and is open no more where none is said; each other is as it was
+pub record WaitsSince (old : List OpenConn) (number : ℕ) (call : Option ℕ) (new : List OpenConn) : Type 0 where
+  pub at : since_of new number ≡ call
+  pub others : (k : ℕ) → k ≢ number → open_in new k ≡ open_in old k
+
+-- an opened connection waits since the call that opened it
+abbrev pub OpensSince : List OpenConn → ℕ → Opened → List OpenConn → Type 0
+OpensSince old call (O.Conn n) new = WaitsSince old n (Some call) new
+OpensSince old call O.Failed new = new ≡ old
+
+-- a named connection waits anew, since the call that named it
+abbrev pub NamesSince : List OpenConn → ℕ → Waited → List OpenConn → Type 0
+NamesSince old call (W.Ready n) new = WaitsSince old n (Some call) new
+NamesSince old call W.Quiet new = new ≡ old
+NamesSince old call W.Failed new = new ≡ old
+
+-- the connection of the number is open and waits longest: none that is open waits since an earlier call
 pub record WaitsLongest (os : List OpenConn) (number : ℕ) : Type 0 where
-  pub place : ℕ
-  pub within : place < length os
-  pub names : (d : OpenConn) → (get_or os place d).number ≡ number
-  pub longest : (k : ℕ) (d : OpenConn) → k < length os → (get_or os place d).since ≤ (get_or os k d).since
+  pub since : ℕ
+  pub is_open : since_of os number ≡ Some since
+  pub longest : (k since' : ℕ) → since_of os k ≡ Some since' → since ≤ since'
 
 -- ---- as connections of a wire
 

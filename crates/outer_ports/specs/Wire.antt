@@ -1,5 +1,5 @@
 -- What a wire tells of its hosts, its open connections and its counts, and what its calls do.
-use Rattle.std.specs.Prelude.{ℕ, ◌≡◌, ◌≢◌, ◌⊎◌, ◌+◌, ◌==◌, ◌<◌, ◌≤◌, List, [], ◌∷◌, ◌++◌, length, take, Option, Some, None, IfSome, Bool, true, false, if◌then◌else◌, bytes_eq}
+use Rattle.std.specs.Prelude.{ℕ, ◌≡◌, ◌≢◌, ◌⊎◌, ◌==◌, ◌<◌, ◌≤◌, List, [], ◌∷◌, ◌++◌, length, take, Option, Some, None, IfSome, Bool, true, false, if◌then◌else◌, bytes_eq}
 use Rattle.outer_ports.specs.Causes.{Rose, one_more}
 use Rattle.outer_ports.specs.declared.host.Host.{Host}
 use Rattle.outer_ports.specs.declared.wire_counts.WireCounts.{WireCounts}

@@ -5,7 +5,7 @@
 //! faults, and the kinds in memory fail exactly where they were told to. What a call does is in
 //! `specs/Ports.antt` for sources and sinks and in `specs/Wire.antt` for connections, the one word
 //! for causes in `specs/Causes.antt`.
-//! Not here: sockets (`wire_mio`), and what the bytes mean.
+//! Not here: sockets, and what the bytes mean.
 //!
 //! A want of memory is answered as `Memory`; it is no fault, and raises no count.
 #![tactic(auto)]

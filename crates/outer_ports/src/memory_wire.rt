@@ -1,8 +1,8 @@
 ghost use Rattle.std.specs.Prelude.{◌≡◌, ◌≢◌, ◌⊎◌, ◌<◌, ◌≤◌, ◌↔◌, ℕ, [], ◌∷◌, length, drop, take, min, Some, None, IsSome, IfOk, OnOk, OnErr, true, Contains};
 ghost use Rattle.std.proofs.Common.{refl};
-ghost use Rattle.outer_ports.specs.Causes.{one_more};
+ghost use Rattle.outer_ports.specs.Causes.{RoseOnce, one_more};
 ghost use Rattle.outer_ports.specs.Wire.{Conn, ChangesOnly, ChangesNone, Opens, Sends, Receives, Waits, IsTold, IsWhole, CountsOpen, CountsSend, CountsReceive, CountsWait, SurelyOpens, SurelySends, SurelyReceives, SurelyWaits, no_counts, one_more_first, response_of};
-ghost use Rattle.outer_ports.specs.MemoryWire.{open_in, conns_of, is_sure, BecomesAt, SameLists, SendsUpTo, ReceivesUpTo, left_of, WaitsLongest};
+ghost use Rattle.outer_ports.specs.MemoryWire.{open_in, since_of, conns_of, is_sure, BecomesAt, WaitsSince, OpensSince, NamesSince, WaitsLongest, SameLists, SendsUpTo, ReceivesUpTo, left_of};
 
 use crate::open_conns::{OpenConn, OpenConns};
 use crate::piece::copy_piece;
@@ -167,6 +167,10 @@ impl Wire for MemoryWire {
         // It fails exactly at the numbered calls.
         ensures exactly { IfOk result (λ opened.
             (opened ≡ Opened.Failed) ↔ Contains self.old.fail self.old.calls) }
+        ensures once { result ≡ Ok Opened.Failed →
+            RoseOnce self.old.counts.faults self.new.counts.faults }
+        ensures since { IfOk result (λ opened.
+            OpensSince self.old.conns self.old.calls opened self.new.conns) }
         ensures calls { OnOk result (self.new.calls ≡ one_more self.old.calls) }
         ensures lists { SameLists self.old self.new }
         ensures unchanged { OnErr result (self.new ≡ self.old) }
@@ -200,7 +204,11 @@ impl Wire for MemoryWire {
 
         // It fails exactly at the numbered calls, and else takes as much as it may.
         ensures exactly { (result ≡ Sent.Failed) ↔ Contains self.old.fail self.old.calls }
+        ensures once { result ≡ Sent.Failed →
+            RoseOnce self.old.counts.faults self.new.counts.faults }
         ensures up_to { SendsUpTo (min self.old.piece (length piece.now)) result }
+        ensures since { WaitsSince self.old.conns conn (since_of self.old.conns conn)
+            self.new.conns }
         ensures calls { result ≢ Sent.Memory → self.new.calls ≡ one_more self.old.calls }
         ensures lists { SameLists self.old self.new }
         ensures unchanged { result ≡ Sent.Memory → self.new ≡ self.old }
@@ -241,17 +249,21 @@ impl Wire for MemoryWire {
         // It fails exactly at the numbered calls, ends early at those of `cut`, and else gives as
         // much as it may.
         ensures exactly { (result ≡ Received.Failed) ↔ Contains self.old.fail self.old.calls }
+        ensures once { result ≡ Received.Failed →
+            RoseOnce self.old.counts.faults self.new.counts.faults }
         ensures cut { (Contains self.old.fail self.old.calls → ⊥) →
             Contains self.old.cut self.old.calls → (result ≡ Received.End)
-            × (self.new.counts.faults ≡ one_more self.old.counts.faults) }
+            × RoseOnce self.old.counts.faults self.new.counts.faults }
         ensures calm { (Contains self.old.fail self.old.calls → ⊥) →
             (Contains self.old.cut self.old.calls → ⊥) →
             self.new.counts.faults ≡ self.old.counts.faults }
         ensures up_to { (o : OpenConn) → open_in self.old.conns conn ≡ Some o →
             ReceivesUpTo self.old.piece (left_of self.old.hosts o) buf.new result }
         ensures ends { (o : OpenConn) → open_in self.old.conns conn ≡ Some o →
-            result ≡ Received.End →
-            Contains self.old.cut self.old.calls ⊎ (left_of self.old.hosts o ≡ []) }
+            (result ≡ Received.End) ↔ ((Contains self.old.fail self.old.calls → ⊥)
+            × (Contains self.old.cut self.old.calls ⊎ (left_of self.old.hosts o ≡ []))) }
+        ensures since { WaitsSince self.old.conns conn (since_of self.old.conns conn)
+            self.new.conns }
         ensures calls { self.new.calls ≡ one_more self.old.calls }
         ensures lists { SameLists self.old self.new }
     {
@@ -292,9 +304,12 @@ impl Wire for MemoryWire {
         // It fails exactly at the numbered calls, is quiet at those of `quiet`, and else names the
         // connection that waits longest.
         ensures exactly { (result ≡ Waited.Failed) ↔ Contains self.old.fail self.old.calls }
+        ensures once { result ≡ Waited.Failed →
+            RoseOnce self.old.counts.faults self.new.counts.faults }
         ensures quiet { (result ≡ Waited.Quiet) ↔ ((Contains self.old.fail self.old.calls → ⊥)
             × Contains self.old.quiet self.old.calls) }
         ensures longest { (n : ℕ) → result ≡ Waited.Ready n → WaitsLongest self.old.conns n }
+        ensures since { NamesSince self.old.conns self.old.calls result self.new.conns }
         ensures calls { self.new.calls ≡ one_more self.old.calls }
         ensures lists { SameLists self.old self.new }
     {
@@ -321,7 +336,8 @@ impl Wire for MemoryWire {
             (conns_of self.new.hosts self.new.conns) }
         ensures counts { self.new.counts ≡ self.old.counts }
 
-        // It is no call that has a number.
+        // It is no call that has a number, and the others wait as before.
+        ensures since { WaitsSince self.old.conns conn None self.new.conns }
         ensures calls { self.new.calls ≡ self.old.calls }
         ensures lists { SameLists self.old self.new }
     {

@@ -1,5 +1,5 @@
 ghost use Rattle.std.specs.Prelude.{◌≡◌, ◌≢◌, ◌<◌, ℕ, [], ◌∷◌, ◌++◌, length, Some, None, IsSome, IfOk, OnOk, OnErr, true, get_or, set};
-ghost use Rattle.outer_ports.specs.MemoryWire.{fresh_open, open_in, BecomesAt, WaitsLongest};
+ghost use Rattle.outer_ports.specs.MemoryWire.{fresh_open, open_in, BecomesAt, NumbersRise, WaitsLongest};
 
 use rdf_terms::{ByteBuf, Memory, TextBuf};
 use std::alloc::Global;
@@ -53,9 +53,10 @@ fn place_of(conns: &[OpenConn], number: u64) -> usize
     at
 }
 
-// The number of the connection that waits longest: none was opened or named last before it.
+// The number of the connection that waits longest: none waits since an earlier call.
 fn longest_waiting(conns: &[OpenConn]) -> u64
-    requires { 0 < length conns.now }
+    requires some { 0 < length conns.now }
+    requires rise { (next : ℕ) × NumbersRise 0 next conns.now }
     ensures there { IsSome (open_in conns.now result) }
     ensures longest { WaitsLongest conns.now result }
 {
@@ -79,13 +80,13 @@ pub struct OpenConns {
 impl Model for OpenConns {
     ghost use Rattle.std.specs.Prelude.{List};
     ghost use Rattle.outer_ports.specs.declared.open_conns.OpenConn.{OpenConn};
-    ghost use Rattle.outer_ports.specs.MemoryWire.{AllBelow};
+    ghost use Rattle.outer_ports.specs.MemoryWire.{NumbersRise};
 
     ghost Value = { List OpenConn };
 
     ghost view = { λ s. s.conns.items };
 
-    ghost invariant = { λ s. AllBelow s.next s.conns.items };
+    ghost invariant = { λ s. NumbersRise 0 s.next s.conns.items };
 }
 
 impl OpenConns {

@@ -1,14 +1,19 @@
-use Rattle.std.proofs.Common.{◌≡◌, ◌<◌, ◌≤◌, Some, length, take, refl, inr, ap, sym, subst, ◌∙◌, rules, arith}
+use Rattle.std.proofs.Common.{◌≡◌, Some, IsSome, take, refl, inr, ap, sym, subst, ◌∙◌, rules, arith}
 use Rattle.outer_ports.specs.Causes.{Rose, one_more}
 use Rattle.outer_ports.specs.declared.open_conns.OpenConn.{OpenConn}
 use Rattle.outer_ports.specs.declared.wire_counts.WireCounts.{WireCounts}
-use Rattle.outer_ports.specs.MemoryWire.{Wiring, left_of, open_in}
-use Rattle.outer_ports.proofs.MemoryWireLemmas.{some_open, told, took_more, counts_failed, counts_ended, not_sure, rose_one}
+use Rattle.outer_ports.specs.MemoryWire.{Wiring, left_of, open_in, conns_of}
+use Rattle.outer_ports.proofs.MemoryWireLemmas.{some_open, told, took_more, counts_failed, counts_ended, faults_one, rose_one}
 use Rattle.outer_ports.proofs.memory_wire.MemoryWireWire.recv.Goals as goal
 
 pub returns-then-contains-clause-counts : goal.returns-then-contains-clause-counts
 returns-then-contains-clause-counts c =
     rw (← c.self.view_is) (counts_failed c.self.inside.hosts.items c.self.inside.conns c.args.conn c.self.inside.counts c.fail_on.new.counts c.fail_on.ensures.counts)
+
+pub returns-then-contains-clause-once : goal.returns-then-contains-clause-once
+returns-then-contains-clause-once c = λ e.
+    let there = subst (λ (w : Wiring). IsSome (conns_of c.args.self.now.hosts w.conns c.args.conn)) (sym c.self.view_is) c.requires.is_open in
+    rw (← c.self.view_is) (faults_one c.args.self.now.hosts c.self.inside.conns c.args.conn c.self.inside.counts c.fail_on.new.counts c.fail_on.ensures.counts there)
 
 pub returns-then-contains-clause-prefix : goal.returns-then-contains-clause-prefix
 returns-then-contains-clause-prefix c = rw (← c.self.view_is) (told c.self.inside.hosts.items c.fail_on.new.conns c.args.conn)
@@ -21,20 +26,20 @@ pub returns-then-contains-2-clause-prefix : goal.returns-then-contains-2-clause-
 returns-then-contains-2-clause-prefix c = rw (← c.self.view_is) (told c.self.inside.hosts.items c.end_on.new.conns c.args.conn)
 
 -- a cut adds one fault
-faults_one : (c : goal.After-end_on) → c.end_on.new.counts.faults ≡ one_more c.args.self.now.counts.faults
-faults_one c =
+cut_one : (c : goal.After-end_on) → c.end_on.new.counts.faults ≡ one_more c.args.self.now.counts.faults
+cut_one c =
     let is = some_open c.args.self.now.hosts c.args.self.now.conns c.args.conn c.requires.is_open in
     let there : open_in c.self.inside.conns c.args.conn ≡ Some is.0 = ap (λ (w : Wiring). open_in w.conns c.args.conn) c.self.view_is ∙ is.1 in
     rw (← c.self.view_is) (ap (λ (w : WireCounts). w.faults) (c.end_on.ensures.counts is.0 there) ∙ ap (λ (w : WireCounts). w.faults) c.add_fault.ensures)
 
 faults_rose : (c : goal.After-end_on) → Rose c.args.self.now.counts.faults c.end_on.new.counts.faults
-faults_rose c = subst (λ n. Rose c.args.self.now.counts.faults n) (sym (faults_one c)) (rose_one c.args.self.now.counts.faults)
+faults_rose c = subst (λ n. Rose c.args.self.now.counts.faults n) (sym (cut_one c)) (rose_one c.args.self.now.counts.faults)
 
 pub returns-then-contains-2-clause-whole : goal.returns-then-contains-2-clause-whole
 returns-then-contains-2-clause-whole c = λ x e. inr (search rules, faults_rose c)
 
 pub returns-then-contains-2-clause-cut : goal.returns-then-contains-2-clause-cut
-returns-then-contains-2-clause-cut c = λ no yes. (refl, faults_one c)
+returns-then-contains-2-clause-cut c = λ no yes. (refl, cut_one c)
 
 pub returns-then-count-eq0-clause-counts : goal.returns-then-count-eq0-clause-counts
 returns-then-count-eq0-clause-counts c =
