@@ -19,10 +19,10 @@ use Rattle.http_message.proofs.LineLemmas.{end_within}
 -- ---- pieces
 
 -- the text begins with the piece, or it doesn't
-abbrev Decided : {A : Type 0} → Piece A → List ℕ → Type 0
+abbrev pub Decided : {A : Type 0} → Piece A → List ℕ → Type 0
 Decided {A} G text = Begins G text ⊎ (Begins G text → ⊥)
 
-then_decided : {A B : Type 0} (G : Piece A) (H : Piece B) → IsDeterministic G → ((t : List ℕ) → Decided G t) → ((t : List ℕ) → Decided H t) → (text : List ℕ) → Decided (Then G H) text
+pub then_decided : {A B : Type 0} (G : Piece A) (H : Piece B) → IsDeterministic G → ((t : List ℕ) → Decided G t) → ((t : List ℕ) → Decided H t) → (text : List ℕ) → Decided (Then G H) text
 then_decided G H det first second text =
     ⊎_elim
     (λ x. ⊎_elim
@@ -56,7 +56,7 @@ no_newline : (end : LineEnd) (text rest : List ℕ) → ((r : List ℕ) → text
 no_newline crlf text rest a b e = a rest e
 no_newline lf text rest a b e = b rest e
 
-newline_decided : (text : List ℕ) → Decided Newline text
+pub newline_decided : (text : List ℕ) → Decided Newline text
 newline_decided text =
     ⊎_elim
     (λ x. inl (crlf, x.0, x.1))
@@ -71,7 +71,7 @@ other_version zero text rest small a b e = a rest e
 other_version (suc zero) text rest small a b e = b rest e
 other_version (suc (suc n)) text rest small a b e = absurd (omega (arith, small))
 
-version_decided : (text : List ℕ) → Decided Version text
+pub version_decided : (text : List ℕ) → Decided Version text
 version_decided text =
     ⊎_elim
     (λ x. inl (0, x.0, (omega arith, x.1)))
@@ -124,7 +124,7 @@ blank_within (suc n) text fits =
     (stopped text))
     (newline_decided text)
 
-blank_decided : (text : List ℕ) → Decided Blank text
+pub blank_decided : (text : List ℕ) → Decided Blank text
 blank_decided text = blank_within (length text) text (omega arith)
 
 -- bytes that pass a test, and the byte after them
@@ -168,7 +168,7 @@ no_word test stop b text (c ∷ word) rest none x =
     let same : b ≡ c = cc in
     none (ap test same ∙ All-head (λ v. test v ≡ true) c word x.1) (word, rest, record { pass = All-tail (λ v. test v ≡ true) c word x.1; whole = cc })
 
-word_decided : (test : ℕ → Bool) (stop : ℕ) (text : List ℕ) → Decided (Word test stop) text
+pub word_decided : (test : ℕ → Bool) (stop : ℕ) (text : List ℕ) → Decided (Word test stop) text
 word_decided test stop [] = inr (λ z. no_text z.0 z.1 z.2.0 z.2.2)
   where
     no_text : (word rest : List ℕ) → 0 < length word → [] ≡ word ++ stop ∷ rest → ⊥
@@ -283,7 +283,7 @@ section_within : (n : ℕ) (text : List ℕ) → length text ≤ n → Decided S
 section_within zero text fits = section_step text (λ t less. absurd (omega (arith, less, fits)))
 section_within (suc n) text fits = section_step text (λ t less. section_within n t (omega (arith, less, fits)))
 
-section_decided : (text : List ℕ) → Decided Section text
+pub section_decided : (text : List ℕ) → Decided Section text
 section_decided text = section_within (length text) text (omega arith)
 
 -- ---- heads
@@ -308,7 +308,7 @@ response_decided text =
     (λ none. inr (λ z. let t = response_pieces text z.0 z.1 z.2 in none (t.0, z.1, t.2)))
     (then_decided ResponseStart Section ResponseStart_deterministic start_decided section_decided text)
 
-few : (n m : ℕ) → (n ≤ m) ⊎ (m < n)
+pub few : (n m : ℕ) → (n ≤ m) ⊎ (m < n)
 few zero m = inl (omega arith)
 few (suc n) zero = inr (omega arith)
 few (suc n) (suc m) = ⊎_elim (λ a. inl (omega (arith, a))) (λ b. inr (omega (arith, b))) (few n m)

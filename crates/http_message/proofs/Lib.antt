@@ -10,4 +10,5 @@ mod Printed
 mod PrintedHeads
 mod Spelled
 mod HeardLemmas
-mod HeadsDecided
+pub mod HeadsDecided
+mod StaysDecided

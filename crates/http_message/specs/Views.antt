@@ -111,6 +111,11 @@ IsAfterHead limit head (phase.Body body) kept = (body.limit ≡ limit) × (IsNoH
 
 -- ---- what is given where these are all bytes so far
 
+-- the answer says what is heard
+abbrev pub tells : Fed → Bool
+tells given.More = false
+tells (given.Done heard) = true
+
 -- they leave open what is heard
 pub record GoesOn (limit : ℕ) (bytes : List ℕ) (new : ReadingState) : Type 0 where
   pub limit_is : new.limit ≡ limit

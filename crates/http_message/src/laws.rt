@@ -21,6 +21,11 @@ pub fn bytes_have_a_reading()
     ensures { (limit : ℕ) (bytes : List ℕ) → (p : Progress) × Reads limit bytes p }
 {}
 
+/// What some bytes decide stays decided, whatever follows.
+pub fn what_is_decided_stays_decided()
+    ensures { (limit : ℕ) (bytes more : List ℕ) (heard : Heard) → Reads limit bytes (decided heard) → Reads limit (bytes ++ more) (decided heard) }
+{}
+
 /// The bytes of an undecided reading are few.
 pub fn undecided_bytes_are_few()
     ensures { (limit : ℕ) (bytes : List ℕ) (ended : Option Heard) → Reads limit bytes (undecided ended) → length bytes ≤ most_undecided limit }

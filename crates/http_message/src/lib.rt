@@ -26,7 +26,7 @@ pub use crate::body::Ended;
 pub use crate::laws::{
     a_printed_head_is_read_as_it_says, a_stated_length_is_that_many_bytes, bytes_have_a_reading,
     bytes_have_one_reading, nothing_read_is_never, spelled_chunks_are_read_as_their_data,
-    undecided_bytes_are_few,
+    undecided_bytes_are_few, what_is_decided_stays_decided,
 };
 pub use crate::reading::{Fed, Reading};
 pub use crate::request::request_bytes;

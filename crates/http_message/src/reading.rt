@@ -58,7 +58,7 @@ impl Model for Reading {
 }
 
 impl Reading {
-    ghost use Rattle.http_message.specs.Views.{ReadingState, HasRead, Takes, Gives, Ends, IsAfterEnd, is_done};
+    ghost use Rattle.http_message.specs.Views.{ReadingState, HasRead, Takes, Gives, Ends, IsAfterEnd, is_done, tells};
 
     /// A reading to which nothing has come. No memory is taken.
     pub fn new(alloc: Global, limit: u64) -> Reading
@@ -180,9 +180,11 @@ impl Reading {
         }
     }
 
-    /// Takes the next piece. It costs the bytes of the piece, and once the bytes of each head.
+    /// Takes the next piece. The reading is done afterwards exactly where what is heard is given; after want of memory it is as
+    /// before. It costs the bytes of the piece, and once the bytes of each head.
     pub fn feed(&mut self, piece: &[u8]) -> Result<Fed, Memory>
         requires going { is_done self.old ≡ false }
+        ensures done { IfOk result (λ given. is_done self.new ≡ tells given) }
         ensures gives { IfOk result (λ given. (fed : List ℕ) → HasRead self.old fed → Gives self.old.limit (fed ++ piece.now) given self.new) }
         ensures err { OnErr result (self.new ≡ self.old) }
     {
