@@ -19,3 +19,7 @@ pub mod LinksOfBytes
 pub mod Hosts
 pub mod ServedLemmas
 pub mod EachFile
+pub mod Appended
+pub mod GeneratedLinks
+pub mod GeneratedSizes
+pub mod GeneratedSites

@@ -1,6 +1,7 @@
 pub mod Capped
 pub mod Endings
 pub mod Fields
+pub mod Generated
 pub mod Growth
 pub mod Lines
 pub mod Places

@@ -1,5 +1,6 @@
 //! Laws of the definitions. Each function's contract is one law, and its body is empty.
 ghost use Rattle.std.specs.Prelude.{◌≡◌, ◌≤◌, ◌<◌, ◌⊎◌, ℕ, List, length};
+ghost use Rattle.site_core.specs.Generated.{IsGenerated};
 ghost use Rattle.site_core.specs.Places.{SiteBad};
 ghost use Rattle.site_core.specs.Serving.{IsServed};
 ghost use Rattle.site_core.specs.Text.{Entry, SiteText, site_limit};
@@ -31,4 +32,9 @@ pub fn each_file_is_a_site_or_has_a_fault()
 /// A request has one response.
 pub fn a_request_has_one_response()
     ensures { (site : List Entry) (request a b : List ℕ) → IsServed site request a → IsServed site request b → a ≡ b }
+{}
+
+/// Two numbers stand for one site.
+pub fn a_generated_site_is_one()
+    ensures { (n step : ℕ) (a b : List Entry) → IsGenerated n step a → IsGenerated n step b → a ≡ b }
 {}
