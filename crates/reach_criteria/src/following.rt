@@ -1,32 +1,22 @@
 ghost use Rattle.std.specs.Prelude.{◌≡◌, [], IfOk, OnOk, if◌then◌else◌, ◌↔◌, ℕ, List};
 ghost use Rattle.std.specs.Option.{option_to_list};
 ghost use Rattle.rdf_terms.specs.Lists.{IsIn, Apart, add_all};
-ghost use Rattle.link_uri.specs.Links as link;
 ghost use Rattle.link_uri.specs.Links.{AreLinks, same_link, texts};
 ghost use Rattle.reach_criteria.specs.Follow.{IsTarget, named_link, named_links, selects as is_selected};
 ghost use Rattle.reach_criteria.specs.Follow as spec;
 
 use crate::criterion::{Criterion, selects};
 use crate::gathered::Gathered;
-use link_uri::{Link, link_of};
+use link_uri::Link;
 use rdf_terms::{Memory, Term, Triple};
 use rows_core::TriplePattern;
 use std::alloc::Global;
-
-fn add_iri(links: &mut Gathered, alloc: Global, iri: &str) -> Result<(), Memory>
-    ensures { OnOk result (links.new ≡ add_all same_link links.old (option_to_list (link.link_of iri.now))) }
-{
-    match link_of(alloc, iri)? {
-        Some(link) => links.add(link),
-        None => Ok(()),
-    }
-}
 
 fn add_term(links: &mut Gathered, alloc: Global, term: &Term) -> Result<(), Memory>
     ensures { OnOk result (links.new ≡ add_all same_link links.old (option_to_list (named_link term.now))) }
 {
     match term {
-        Term::Iri(iri) => add_iri(links, alloc, iri.as_str()),
+        Term::Iri(iri) => links.add(alloc, iri),
         _ => Ok(()),
     }
 }
@@ -75,7 +65,11 @@ fn gather(
 }
 
 /// The links that selected triples name, each once, in order of first appearance: subject,
-/// predicate, object. It reads each IRI of each selected triple once.
+/// predicate, object.
+///
+/// It takes the test of each triple and a hash of each IRI of a selected one; an IRI that comes for
+/// the first time is read as a URL besides, in time in its length, and one that comes again is not.
+/// It takes memory for the links, and while it runs for a share of each such IRI's text.
 pub fn links_of(
     alloc: Global,
     triples: &[Triple],
