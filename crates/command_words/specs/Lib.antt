@@ -1,0 +1,4 @@
+pub mod Grammar
+pub mod Ready
+pub mod Values
+pub mod Words
