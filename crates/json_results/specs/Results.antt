@@ -1,7 +1,7 @@
 -- The text of results, after the SPARQL 1.1 Query Results JSON Format, section 3, in the layout of
 -- docs/FORMATS.md, "Results". Strings are as the crate serde_json writes them.
-use Rattle.std.specs.Prelude.{◌≡◌, ℕ, List, [], ◌∷◌, ◌++◌, codes, Bool, true, false, bytes_eq, Option, Some, None, if◌then◌else◌, map}
-use Rattle.std.specs.List.{join_with_byte, flat_map}
+use Rattle.std.specs.Prelude.{ℕ, List, [], ◌∷◌, ◌++◌, codes, Bool, true, false, bytes_eq, Option, Some, None, if◌then◌else◌, map}
+use Rattle.std.specs.List.{join_with_byte}
 use Rattle.json.specs.Print.{quoted}
 use Rattle.serde_json.specs.Data.{Data, string, object, Members, no_members, member, put}
 use Rattle.serde_json.specs.Written.{compact_text}
@@ -18,14 +18,21 @@ head_text names =
 abbrev pub type_and_value : List ℕ → List ℕ → Members
 type_and_value type_ value = member (codes "type") (string type_) (member (codes "value") (string value) no_members)
 
--- a literal: with its tag where it has one, else with its datatype unless that is xsd:string
-abbrev pub literal_members : List ℕ → Option (List ℕ) → List ℕ → Members
-literal_members datatype (Some tag) lexical =
+-- a literal with its tag
+abbrev pub tagged_members : List ℕ → List ℕ → Members
+tagged_members lexical tag =
     member (codes "type") (string (codes "literal"))
     (member (codes "value") (string lexical) (member (codes "xml:lang") (string tag) no_members))
+
+-- a literal with its datatype
+abbrev pub typed_members : List ℕ → List ℕ → Members
+typed_members datatype lexical = member (codes "datatype") (string datatype) (type_and_value (codes "literal") lexical)
+
+-- a literal: with its tag where it has one, else with its datatype unless that is xsd:string
+abbrev pub literal_members : List ℕ → Option (List ℕ) → List ℕ → Members
+literal_members datatype (Some tag) lexical = tagged_members lexical tag
 literal_members datatype None lexical =
-    let plain = type_and_value (codes "literal") lexical in
-    if bytes_eq datatype xsd_string then plain else member (codes "datatype") (string datatype) plain
+    if bytes_eq datatype xsd_string then type_and_value (codes "literal") lexical else typed_members datatype lexical
 
 -- a term: its kind, its text, and what a literal has beside these
 abbrev pub term_data : Term → Data
@@ -55,16 +62,3 @@ row_text names cells first = (if first then codes "\n" else codes ",\n") ++ row_
 -- the tail
 abbrev pub tail_text : List ℕ
 tail_text = codes "\n]}}\n"
-
--- the texts of rows behind the first
-abbrev pub more_rows_text : List (List ℕ) → List (List (Option Term)) → List ℕ
-more_rows_text names rows = flat_map (λ row. row_text names row false) rows
-
--- the texts of rows, in their order
-abbrev pub rows_text : List (List ℕ) → List (List (Option Term)) → List ℕ
-rows_text names [] = []
-rows_text names (row ∷ rows) = row_text names row true ++ more_rows_text names rows
-
--- the whole text
-abbrev pub result_text : List (List ℕ) → List (List (Option Term)) → List ℕ
-result_text names rows = head_text names ++ rows_text names rows ++ tail_text

@@ -32,14 +32,21 @@ fn quoted_names(alloc: Global, names: &[TextBuf]) -> Result<ByteBuf, Memory>
     Ok(all)
 }
 
+/// The text in front of the rows, as `head`, in a vector to which rows can be appended.
+pub(crate) fn head_bytes(alloc: Global, names: &[TextBuf]) -> Result<Vec<u8>, Memory>
+    ensures { IfOk result (λ text. text.items ≡ head_text names.now) }
+{
+    let mut text = Vec::from_slice(alloc, b"{\"head\":{\"vars\":[")?;
+    text.extend_from_slice(quoted_names(alloc, names)?.as_slice())?;
+    text.extend_from_slice(b"]},\"results\":{\"bindings\":[")?;
+    Ok(text)
+}
+
 /// The text in front of the rows: it names the selected variables, in their order.
 pub fn head(alloc: Global, names: &[TextBuf]) -> Result<ByteBuf, Memory>
     ensures { IfOk result (λ text. text ≡ head_text names.now) }
 {
-    let mut text = ByteBuf::from_slice(alloc, b"{\"head\":{\"vars\":[")?;
-    text.extend(quoted_names(alloc, names)?.as_slice())?;
-    text.extend(b"]},\"results\":{\"bindings\":[")?;
-    Ok(text)
+    Ok(ByteBuf::from_vec(head_bytes(alloc, names)?))
 }
 
 /// The text behind the rows.

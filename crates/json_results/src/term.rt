@@ -1,11 +1,13 @@
-ghost use Rattle.std.specs.Prelude.{◌≡◌, ◌++◌, IfOk, OnOk, string_bytes, bytes_eq};
-ghost use Rattle.serde_json.specs.Data.{string, object, put};
-ghost use Rattle.serde_json.specs.View.{view, members_view};
-ghost use Rattle.rdf_terms.specs.NTriplesForm.{blank_label, xsd_string};
+ghost use Rattle.std.specs.Prelude.{◌≡◌, ◌∷◌, ◌++◌, [], OnOk, bytes_eq, codes};
+ghost use Rattle.json.specs.Token.{key, string};
+ghost use Rattle.json.specs.Tree.{json_tokens};
+ghost use Rattle.serde_json.specs.Data.{object};
+ghost use Rattle.serde_json.specs.Written.{outline};
+ghost use Rattle.rdf_terms.specs.NTriplesForm.{xsd_string};
 ghost use Rattle.json_results.specs.Results as spec;
 
+use json::Writer;
 use rdf_terms::{Memory, Term, TextBuf, write_label};
-use serde_json::{Map, Value};
 use std::alloc::Global;
 
 const XSD_STRING: &str = "http://www.w3.org/2001/XMLSchema#string";
@@ -16,72 +18,93 @@ fn is_xsd_string(datatype: &str) -> bool
     datatype == XSD_STRING
 }
 
-fn text_value(alloc: Global, text: &str) -> Result<Value, Memory>
-    ensures { IfOk result (λ v. view v ≡ string text.now) }
+fn write_text(writer: &mut Writer, name: &str, text: &str) -> Result<(), Memory>
+    ensures ok { OnOk result (writer.new.tokens ≡ writer.old.tokens ++ key name.now ∷ string text.now ∷ []) }
+    ensures before { writer.new.before ≡ writer.old.before }
 {
-    Ok(Value::String(String::from_str(alloc, text)?))
-}
-
-fn put_text(
-    alloc: Global,
-    members: &mut Map<String, Value>,
-    key: &str,
-    text: &str,
-) -> Result<(), Memory>
-    ensures { OnOk result (members_view members.new.entries
-        ≡ put key.now (string text.now) (members_view members.old.entries)) }
-{
-    let value = text_value(alloc, text)?;
-    serde_json::put(members, alloc, key, value)?;
+    writer.key(name)?;
+    writer.string(text)?;
     Ok(())
 }
 
-fn type_and_value(alloc: Global, kind: &str, value: &str) -> Result<Map<String, Value>, Memory>
-    ensures { IfOk result (λ m. members_view m.entries ≡ spec.type_and_value kind.now value.now) }
+fn write_type_and_value(writer: &mut Writer, kind: &str, value: &str) -> Result<(), Memory>
+    ensures ok { OnOk result (writer.new.tokens ≡ writer.old.tokens ++ key (codes "type") ∷ string kind.now ∷ key (codes "value") ∷ string value.now ∷ []) }
+    ensures before { writer.new.before ≡ writer.old.before }
 {
-    let mut members = Map::new(alloc);
-    put_text(alloc, &mut members, "type", kind)?;
-    put_text(alloc, &mut members, "value", value)?;
-    Ok(members)
+    write_text(writer, "type", kind)?;
+    write_text(writer, "value", value)?;
+    Ok(())
 }
 
-fn literal_value(
-    alloc: Global,
+fn write_simple(writer: &mut Writer, kind: &str, value: &str) -> Result<(), Memory>
+    ensures ok { OnOk result (writer.new.tokens ≡ writer.old.tokens ++ json_tokens (outline (object (spec.type_and_value kind.now value.now)))) }
+    ensures before { writer.new.before ≡ writer.old.before }
+{
+    writer.begin_object()?;
+    write_type_and_value(writer, kind, value)?;
+    writer.end_object()?;
+    Ok(())
+}
+
+fn write_tagged(writer: &mut Writer, lexical: &str, tag: &str) -> Result<(), Memory>
+    ensures ok { OnOk result (writer.new.tokens ≡ writer.old.tokens ++ json_tokens (outline (object (spec.tagged_members lexical.now tag.now)))) }
+    ensures before { writer.new.before ≡ writer.old.before }
+{
+    writer.begin_object()?;
+    write_type_and_value(writer, "literal", lexical)?;
+    write_text(writer, "xml:lang", tag)?;
+    writer.end_object()?;
+    Ok(())
+}
+
+fn write_typed(writer: &mut Writer, lexical: &str, datatype: &str) -> Result<(), Memory>
+    ensures ok { OnOk result (writer.new.tokens ≡ writer.old.tokens ++ json_tokens (outline (object (spec.typed_members datatype.now lexical.now)))) }
+    ensures before { writer.new.before ≡ writer.old.before }
+{
+    writer.begin_object()?;
+    write_text(writer, "datatype", datatype)?;
+    write_type_and_value(writer, "literal", lexical)?;
+    writer.end_object()?;
+    Ok(())
+}
+
+fn write_literal(
+    writer: &mut Writer,
     datatype: &str,
     tag: &Option<TextBuf>,
     lexical: &str,
-) -> Result<Value, Memory>
-    ensures { IfOk result (λ v. view v ≡ object (spec.literal_members datatype.now tag.now lexical.now)) }
+) -> Result<(), Memory>
+    ensures ok { OnOk result (writer.new.tokens ≡ writer.old.tokens ++ json_tokens (outline (object (spec.literal_members datatype.now tag.now lexical.now)))) }
+    ensures before { writer.new.before ≡ writer.old.before }
 {
-    let mut members = type_and_value(alloc, "literal", lexical)?;
     match tag {
-        Some(tag) => {
-            put_text(alloc, &mut members, "xml:lang", tag.as_str())?;
-            Ok(Value::Object(members))
-        }
+        Some(tag) => write_tagged(writer, lexical, tag.as_str()),
         None => {
-            if !is_xsd_string(datatype) {
-                put_text(alloc, &mut members, "datatype", datatype)?;
+            if is_xsd_string(datatype) {
+                write_simple(writer, "literal", lexical)
+            } else {
+                write_typed(writer, lexical, datatype)
             }
-            Ok(Value::Object(members))
         }
     }
 }
 
-/// A term as JSON.
-pub fn term_value(alloc: Global, term: &Term) -> Result<Value, Memory>
-    ensures { IfOk result (λ v. view v ≡ spec.term_data term.now) }
+/// Writes a term as JSON. Of the terms only a blank node takes memory beside the writer's, for its
+/// label.
+pub fn write_term(alloc: Global, writer: &mut Writer, term: &Term) -> Result<(), Memory>
+    ensures ok { OnOk result (writer.new.tokens ≡ writer.old.tokens ++ json_tokens (outline (spec.term_data term.now))) }
+    ensures before { writer.new.before ≡ writer.old.before }
 {
     match term {
-        Term::Iri(text) => Ok(Value::Object(type_and_value(alloc, "uri", text.as_str())?)),
+        Term::Iri(text) => write_simple(writer, "uri", text.as_str()),
         Term::Blank { doc, n } => {
             let label = write_label(alloc, doc.as_str(), *n)?;
-            Ok(Value::Object(type_and_value(alloc, "bnode", label.as_str())?))
+            write_simple(writer, "bnode", label.as_str())
         }
         Term::Literal {
             datatype,
             tag,
             lexical,
-        } => literal_value(alloc, datatype.as_str(), tag, lexical.as_str()),
+        } => write_literal(writer, datatype.as_str(), tag, lexical.as_str()),
     }
 }

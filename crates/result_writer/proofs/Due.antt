@@ -5,7 +5,7 @@ use Rattle.std.specs.Io.KnownBytes.{append_known}
 use Rattle.std.proofs.lemmas.List.{take-append-drop, drop-drop, drop_all}
 use Rattle.std.proofs.lemmas.Bool.Decides.{nat_tests}
 use Rattle.std.proofs.Math.Seq.{drop-append_seam}
-use Rattle.json_results.specs.Results.{head_text, row_text, rows_text, more_rows_text, tail_text, result_text}
+use Rattle.result_writer.specs.Format.{head_text, row_text, rows_text, more_rows_text, tail_text, result_text}
 use Rattle.rows_core.specs.Rows.{Cells}
 use Rattle.result_writer.specs.Output.{Output, tail_behind, piece, waiting_text, due_text, IsDue, IsClear, text_made, with_text, WritesSome, KeepsText, closed_by}
 

@@ -1,2 +1,3 @@
+pub mod SomeText
 pub mod PieceLemmas
 pub mod Due

@@ -2,10 +2,11 @@
 use Rattle.std.proofs.Common.{ℕ, zero, suc, ◌≡◌, ◌<◌, ◌≤◌, ◌+◌, List, [], ◌∷◌, ◌++◌, Bool, true, false, Option, refl, sym, ◌∙◌, ap, subst, arith, length, take, drop, get_or, length-append, length-drop, inl, inr}
 use Rattle.rdf_terms.specs.Lists.{IsIn}
 use Rattle.rdf_terms.proofs.Members.{in_either}
-use Rattle.std.specs.Prelude.{◌==◌, if◌then◌else◌, codes, nat_eq, IsTrue}
+use Rattle.std.specs.Prelude.{◌==◌, nat_eq, IsTrue}
 use Rattle.std.proofs.lemmas.Bool.Decides.{nat_tests}
 use Rattle.std.specs.Io.KnownBytes.{append_known}
-use Rattle.json_results.specs.Results.{row_text, row_object, tail_text}
+use Rattle.result_writer.specs.Format.{row_text, tail_text}
+use Rattle.result_writer.proofs.SomeText.{row_some}
 use Rattle.rows_core.specs.Rows.{Cells}
 use Rattle.result_writer.specs.Output.{Output, IsOutput, tail_behind, piece, text_made, with_text, WritesSome}
 
@@ -19,14 +20,10 @@ tail_more true [] left h k = absurd (omega arith)
 tail_more true (r ∷ rs) left h k = refl
 tail_more false rest left h k = refl
 
-front_some : (b : Bool) (xs : List ℕ) → 0 < length ((if b then codes "\n" else codes ",\n") ++ xs)
-front_some true xs = omega arith
-front_some false xs = omega arith
-
 -- a row has some text
 pub piece_some : (names : List (List ℕ)) (closed first : Bool) (row : Cells) (rest : List Cells) → 0 < length (piece names closed first row rest)
 piece_some names closed first row rest =
-    let a = front_some first (row_object names row) in
+    let a = row_some names row first in
     let e = length-append (row_text names row first) (tail_behind closed rest) in
     omega arith
 
@@ -67,7 +64,7 @@ wrote_row o row rest n text left content faults none e t s w l c f =
 -- a row has some text, whatever stands behind it
 pub text_some : (names : List (List ℕ)) (cells : Cells) (first : Bool) (behind : List ℕ) → 0 < length (row_text names cells first ++ behind)
 text_some names cells first behind =
-    let a = front_some first (row_object names cells) in
+    let a = row_some names cells first in
     let e = length-append (row_text names cells first) behind in
     omega arith
 

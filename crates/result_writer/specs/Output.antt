@@ -4,7 +4,7 @@ use Rattle.std.specs.Io.KnownBytes.{append_known}
 use Rattle.rdf_terms.specs.Lists.{IsIn}
 use Rattle.rows_core.specs.Rows.{Cells}
 use Rattle.outer_ports.specs.Causes.{RoseOnce}
-use Rattle.json_results.specs.Results.{head_text, row_text, rows_text, tail_text, result_text}
+use Rattle.result_writer.specs.Format.{head_text, row_text, rows_text, tail_text, result_text}
 use Rattle.result_writer.specs.declared.written.Written.{Written}
 use Rattle.result_writer.specs.declared.written.Written.TheVariants.{Wrote, Clear, Failed}
 

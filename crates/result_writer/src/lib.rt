@@ -8,9 +8,11 @@
 //! Want of memory is `Memory` everywhere; after it all is as it was.
 #![tactic(auto)]
 
+mod format;
 mod pieces;
 mod writer;
 mod written;
 
+pub use crate::format::ResultFormat;
 pub use crate::writer::RowWriter;
 pub use crate::written::Written;

@@ -1,10 +1,10 @@
-ghost use Rattle.std.specs.Prelude.{◌≡◌, ◌<◌, ◌≤◌, ◌+◌, ◌∷◌, Bool, List, IfOk, length, drop};
+ghost use Rattle.std.specs.Prelude.{◌≡◌, ◌<◌, ◌≤◌, ◌+◌, ◌∷◌, Bool, List, OnOk, length, drop};
 ghost use Rattle.rdf_terms.specs.Lists.{IsIn};
 ghost use Rattle.rows_core.specs.Rows.{Cells};
 ghost use Rattle.result_writer.specs.Output.{tail_behind, piece};
 
-use json_results::{row_text, tail};
-use rdf_terms::{ByteBuf, Memory, TextBuf};
+use crate::format::ResultFormat;
+use rdf_terms::Memory;
 use rows_core::Row;
 use std::alloc::Global;
 
@@ -29,23 +29,28 @@ pub fn row_at(rows: &[Row], place: usize) -> &Row
 pub fn tail_after(closed: bool, left: usize) -> &'static [u8]
     ensures { (rest : List Cells) → length rest ≡ left → result.now ≡ tail_behind closed rest }
 {
-    if closed && left == 0 { tail() } else { b"" }
+    if closed && left == 0 {
+        ResultFormat::tail()
+    } else {
+        b""
+    }
 }
 
-/// The text of a row, and the tail where it follows at once.
-pub fn row_piece(
+/// Makes a text that of a row, and the tail where it follows at once.
+pub fn put_piece(
     alloc: Global,
-    names: &[TextBuf],
+    text: &mut Vec<u8>,
+    format: &ResultFormat,
     row: &Row,
     first: bool,
     behind: &[u8],
-) -> Result<ByteBuf, Memory>
-    requires { length names.now ≡ length row.now }
+) -> Result<(), Memory>
     ensures text { (closed : Bool) → (rest : List Cells) → behind.now ≡ tail_behind closed rest
-        → IfOk result (λ text. text ≡ piece names.now closed first row.now rest) }
-    ensures some { IfOk result (λ text. 0 < length text) }
+        → OnOk result (text.new.items ≡ piece format.now closed first row.now rest) }
+    ensures some { OnOk result (0 < length text.new.items) }
 {
-    let mut text = row_text(alloc, names, row.cells(), first)?;
-    text.extend(behind)?;
-    Ok(text)
+    text.clear();
+    format.append_row(alloc, text, row, first)?;
+    text.extend_from_slice(behind)?;
+    Ok(())
 }

@@ -3,11 +3,11 @@ ghost use Rattle.rdf_terms.specs.Lists.{IsIn};
 ghost use Rattle.rows_core.specs.Rows.{Cells};
 ghost use Rattle.result_writer.specs.Output.{IsClear, Writes, closed_by};
 
-use crate::pieces::{bytes_from, row_at, row_piece, tail_after};
+use crate::format::ResultFormat;
+use crate::pieces::{bytes_from, put_piece, row_at, tail_after};
 use crate::written::Written;
-use json_results::tail;
 use outer_ports::{Sink, Wrote};
-use rdf_terms::{ByteBuf, Memory, TextBuf};
+use rdf_terms::Memory;
 use rows_core::Row;
 use std::alloc::Global;
 use std::marker::Model;
@@ -15,11 +15,12 @@ use std::marker::Model;
 /// A sink, the rows that go to it, and the text that is not yet written.
 #[derive(Drop)]
 pub struct RowWriter<S: Sink> {
-    names: Vec<TextBuf>,
+    format: ResultFormat,
     rows: Vec<Row>,
     // so many rows became text
     handed: usize,
-    text: ByteBuf,
+    // the head, and then each row in turn
+    text: Vec<u8>,
     // so much of the text is written
     at: usize,
     closed: bool,
@@ -32,18 +33,18 @@ impl<S: Sink> Model for RowWriter<S> {
 
     ghost Value = { Output };
 
-    ghost view = { λ w. record { names = w.names.items; rows = w.rows.items; handed = w.handed; pending = drop w.at w.text; closed = w.closed; content = S.content w.sink; faults = S.faults w.sink } };
+    ghost view = { λ w. record { names = w.format; rows = w.rows.items; handed = w.handed; pending = drop w.at w.text.items; closed = w.closed; content = S.content w.sink; faults = S.faults w.sink } };
 
-    ghost invariant = { λ w. IsOutput w.names.items w.rows.items w.handed w.at w.text };
+    ghost invariant = { λ w. IsOutput w.format w.rows.items w.handed w.at w.text.items };
 }
 
 impl<S: Sink> RowWriter<S> {
-    /// A writer of results with these names, whose head is pending. No memory is taken.
-    pub fn new(alloc: Global, names: Vec<TextBuf>, head: ByteBuf, sink: S) -> RowWriter<S>
-        ensures { result ≡ record { names = names.items; rows = []; handed = 0; pending = head; closed = false; content = S.content sink; faults = S.faults sink } }
+    /// A writer of results in this format, whose head is pending. No memory is taken.
+    pub fn new(alloc: Global, format: ResultFormat, head: Vec<u8>, sink: S) -> RowWriter<S>
+        ensures { result ≡ record { names = format; rows = []; handed = 0; pending = head.items; closed = false; content = S.content sink; faults = S.faults sink } }
     {
         RowWriter {
-            names,
+            format,
             rows: Vec::new(alloc),
             handed: 0,
             text: head,
@@ -84,7 +85,7 @@ impl<S: Sink> RowWriter<S> {
         }
     }
 
-    // Makes the first row that waits text, and writes of it.
+    // Makes the first row that waits text, in the room of the text before it, and writes of it.
     fn write_row(&mut self, alloc: Global) -> Result<Written, Memory>
         requires none { self.old.pending ≡ [] }
         requires waits { self.old.handed < length self.old.rows }
@@ -94,16 +95,18 @@ impl<S: Sink> RowWriter<S> {
     {
         let handed = self.handed;
         let behind = tail_after(self.closed, self.rows.len() - handed - 1);
-        let piece = row_piece(
+        let made = put_piece(
             alloc,
-            self.names.as_slice(),
+            &mut self.text,
+            &self.format,
             row_at(self.rows.as_slice(), handed),
             handed == 0,
             behind,
-        )?;
-        match self.sink.write(piece.as_slice()) {
+        );
+        self.at = self.text.len();
+        made?;
+        match self.sink.write(self.text.as_slice()) {
             Wrote::Took(count) => {
-                self.text = piece;
                 self.at = count;
                 self.handed = handed + 1;
                 Ok(Written::Wrote)
@@ -138,7 +141,7 @@ impl<S: Sink> RowWriter<S> {
         ensures err { OnErr result (self.new ≡ self.old) }
     {
         let mut more = more;
-        let text = ByteBuf::from_slice(alloc, tail_after(true, more.len()))?;
+        let text = Vec::from_slice(alloc, tail_after(true, more.len()))?;
         self.rows.append(&mut more)?;
         self.text = text;
         self.at = 0;
@@ -152,7 +155,7 @@ impl<S: Sink> RowWriter<S> {
         ensures faults { S.faults result ≡ self.faults }
     {
         let RowWriter {
-            names: _,
+            format: _,
             rows: _,
             handed: _,
             text: _,

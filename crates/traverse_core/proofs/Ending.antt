@@ -12,7 +12,7 @@ use Rattle.link_queue.specs.declared.state.LinkState.TheVariants.{Queued, InFlig
 use Rattle.link_queue.specs.LinkStates.{is_queued}
 use Rattle.link_queue.specs.Table.{links, marks, flying, first_queued, queued_links}
 use Rattle.link_queue.proofs.Growth.{flying_marks}
-use Rattle.json_results.specs.Results.{result_text}
+use Rattle.result_writer.specs.Format.{result_text}
 use Rattle.rows_core.specs.Rows.{Cells, projected}
 use Rattle.algebra_core.specs.Graphs as graphs
 use Rattle.reachability.specs.declared.record.Found.{Found}

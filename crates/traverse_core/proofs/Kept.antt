@@ -20,7 +20,7 @@ use Rattle.reachability.specs.Reach.{Text}
 use Rattle.algebra_core.specs.declared.query.Query.{Query}
 use Rattle.algebra_core.specs.Query.{Answers}
 use Rattle.traverse_core.specs.Query.{patterns_of, selected_names}
-use Rattle.json_results.specs.Results.{head_text}
+use Rattle.result_writer.specs.Format.{head_text}
 use Rattle.result_writer.specs.declared.written.Written.{Written}
 use Rattle.result_writer.specs.declared.written.Written.TheVariants.{Wrote, Clear, Failed}
 use Rattle.rows_core.specs.Rows.{Cells}

@@ -9,7 +9,7 @@ use Rattle.link_queue.specs.declared.state.LinkState.TheVariants.{Queued, InFlig
 use Rattle.link_queue.specs.Table.{state_at, with_state, queue_all}
 use Rattle.rows_core.specs.Rows.{Cells}
 use Rattle.outer_ports.specs.Causes.{RoseOnce}
-use Rattle.json_results.specs.Results.{head_text}
+use Rattle.result_writer.specs.Format.{head_text}
 use Rattle.reachability.specs.declared.record.Found.{Found}
 use Rattle.reachability.specs.Reach.{Rule, Text}
 use Rattle.reachability.specs.Record.{found_triples}

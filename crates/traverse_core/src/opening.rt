@@ -1,15 +1,15 @@
 ghost use Rattle.std.specs.Prelude.{◌≡◌, [], IfOk, map, slice_get, unwrap_or};
 ghost use Rattle.link_uri.specs.Links.{AreLinks};
 ghost use Rattle.link_queue.specs.Table.{queue_all};
-ghost use Rattle.json_results.specs.Results.{head_text};
+ghost use Rattle.result_writer.specs.Format.{head_text};
 ghost use Rattle.traverse_core.specs.Query.{patterns_of};
 ghost use Rattle.traverse_core.specs.Query as spec;
 
 use algebra_core::{Query, patterns};
-use json_results::head;
 use link_queue::LinkTable;
 use link_uri::Link;
-use rdf_terms::{ByteBuf, Memory, Seq, TextBuf};
+use rdf_terms::{Memory, Seq, TextBuf};
+use result_writer::ResultFormat;
 use rows_core::TriplePattern;
 use std::alloc::Global;
 
@@ -17,8 +17,8 @@ use std::alloc::Global;
 #[derive(Drop)]
 pub struct Start {
     pub patterns: Seq<TriplePattern>,
-    pub names: Vec<TextBuf>,
-    pub head: ByteBuf,
+    pub format: ResultFormat,
+    pub head: Vec<u8>,
     pub table: LinkTable,
 }
 
@@ -53,18 +53,19 @@ fn selected_names(alloc: Global, query: &Query) -> Result<Vec<TextBuf>, Memory>
 pub fn prepare(alloc: Global, query: &Query, seeds: &[Link]) -> Result<Start, Memory>
     requires { AreLinks seeds.now }
     ensures patterns { IfOk result (λ start. start.patterns ≡ patterns_of query.now) }
-    ensures names { IfOk result (λ start. start.names.items ≡ spec.selected_names query.now) }
-    ensures head { IfOk result (λ start. start.head ≡ head_text (spec.selected_names query.now)) }
+    ensures names { IfOk result (λ start. start.format ≡ spec.selected_names query.now) }
+    ensures head { IfOk result (λ start. start.head.items ≡ head_text (spec.selected_names query.now)) }
     ensures table { IfOk result (λ start. start.table ≡ queue_all [] seeds.now) }
 {
     let patterns = patterns(alloc, query)?;
     let names = selected_names(alloc, query)?;
-    let head = head(alloc, names.as_slice())?;
+    let format = ResultFormat::new(alloc, names.as_slice())?;
+    let head = format.head(alloc)?;
     let mut table = LinkTable::new(alloc);
     table.extend(seeds)?;
     Ok(Start {
         patterns,
-        names,
+        format,
         head,
         table,
     })

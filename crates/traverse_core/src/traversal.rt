@@ -4,7 +4,7 @@ ghost use Rattle.link_uri.specs.declared.link.Link.{Link as link};
 ghost use Rattle.link_uri.specs.Links.{IsLink, AreLinks};
 ghost use Rattle.link_queue.specs.Table.{link_at, state_at, flying, first_flying, marks, queued_links};
 ghost use Rattle.link_queue.specs.declared.state.LinkState.TheVariants.{Queued, InFlight};
-ghost use Rattle.json_results.specs.Results.{result_text};
+ghost use Rattle.result_writer.specs.Format.{result_text};
 ghost use Rattle.doc_reader.specs.Outcome.{outcome_of};
 ghost use Rattle.algebra_core.specs.Query.{Answers};
 ghost use Rattle.traverse_core.specs.Query.{selected_names};
@@ -97,14 +97,14 @@ impl<J: Job, S: Sink> Traversal<J, S> {
             Ok(
                 Start {
                     patterns,
-                    names,
+                    format,
                     head,
                     table,
                 },
             ) => {
                 let entries = Vec::new(alloc);
                 let log = Graph::new(alloc);
-                let output = RowWriter::new(alloc, names, head, out);
+                let output = RowWriter::new(alloc, format, head, out);
                 Ok(Traversal {
                     query,
                     criterion,

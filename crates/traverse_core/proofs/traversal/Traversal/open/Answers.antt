@@ -2,7 +2,7 @@ use Rattle.std.proofs.Common.{◌≡◌, ◌∙◌, ap, subst, [], List}
 use Rattle.link_uri.specs.declared.link.Link.{Link}
 use Rattle.link_uri.specs.Links.{AreLinks}
 use Rattle.link_queue.specs.Table.{queue_all}
-use Rattle.json_results.specs.Results.{head_text}
+use Rattle.result_writer.specs.Format.{head_text}
 use Rattle.algebra_core.specs.declared.query.Query.{Query}
 use Rattle.traverse_core.specs.Query.{patterns_of, selected_names}
 use Rattle.traverse_core.proofs.Kept.{opened_out, opened_with}
