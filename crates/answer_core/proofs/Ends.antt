@@ -1,10 +1,10 @@
 -- From what the end of a run tells to what is said of its record and of what was written.
-use Rattle.std.proofs.Common.{ℕ, ◌≡◌, ◌≢◌, ◌≤◌, ◌⊎◌, ◌+◌, List, [], ◌∷◌, ◌++◌, Option, Some, None, Bool, true, false, inl, inr, refl, sym, ap, subst, ◌∙◌, arith, length, length-append, take, append-nil, append_assoc}
+use Rattle.std.proofs.Common.{ℕ, ◌≡◌, ◌≢◌, ◌≤◌, ◌+◌, List, [], ◌∷◌, ◌++◌, Option, Some, Bool, true, false, inl, inr, refl, sym, ap, subst, ◌∙◌, arith, length, length-append, take, append-nil, append_assoc}
 use Rattle.std.specs.Prelude.{map, bytes_eq, IfSome, IsTrue, if◌then◌else◌, ◌==◌, drop}
 use Rattle.std.proofs.Math.Seq.{take-append_seam, take-length}
 use Rattle.std.proofs.lemmas.List.Sorted.{IsPermutation-refl}
 use Rattle.rdf_terms.specs.declared.triple.Triple.{Triple}
-use Rattle.rdf_terms.specs.Lists.{IsIn, Apart}
+use Rattle.rdf_terms.specs.Lists.{Apart}
 use Rattle.link_uri.specs.declared.heard.Heard.{Heard}
 use Rattle.link_uri.specs.declared.heard.Heard.TheVariants.{Reply, Never}
 use Rattle.link_uri.specs.declared.heard.Reply.{Reply as AReply}
@@ -15,7 +15,7 @@ use Rattle.algebra_core.specs.Order.{row_cmp}
 use Rattle.algebra_core.specs.declared.query.Key.{Key}
 use Rattle.algebra_core.specs.declared.query.Query.{Query}
 use Rattle.algebra_core.specs.Query.{Answers, answers_by, distinct_if, ordered_if, solutions}
-use Rattle.json_results.specs.Results.{head_text, rows_text, tail_text, result_text}
+use Rattle.result_writer.specs.Format.{head_text, rows_text, tail_text, result_text}
 use Rattle.outer_ports.specs.Causes.{RoseOnce}
 use Rattle.result_writer.specs.Output.{due_text, waiting_text}
 use Rattle.site_core.specs.Text.{Entry as SiteEntry}
@@ -38,11 +38,9 @@ use Rattle.traverse_core.proofs.Logging.{graph_apart}
 use Rattle.answer_core.proofs.Many.{is_beyond, not_beyond}
 use Rattle.answer_core.specs.Codes.{ended_status}
 use Rattle.answer_core.specs.Headline.{Class, Ended, Halted, NoMemory, Unreported, class_of, Holds, output_fails, CountsFaults, StatusMatchesRecord, Traversed, Wrote, NoneUnreached, StatusEvidence}
-use Rattle.answer_core.specs.Running.{command_of, IsOverSite, IsOfSite, RunRead, BeforeReport, Writing, writing, ran_status, has_record, is_whole}
+use Rattle.answer_core.specs.Running.{task_of, IsOverSite, IsOfSite, RunRead, BeforeReport, Writing, writing, ran_status, has_record, is_whole}
 use Rattle.answer_core.proofs.Evidence.{ended_class, output_by, wrote_may}
-use Rattle.answer_core.specs.declared.command.Command.{Command}
 use Rattle.answer_core.specs.declared.status.Status.{Status}
-use Rattle.answer_core.specs.declared.status.Status.TheVariants.{Output, Memory}
 
 -- ---- the status
 
@@ -92,7 +90,7 @@ shorter written rest text whole =
 
 -- a prefix of the text of answers over the merged graph was written: of its head alone until the output is closed
 begun : (run : Run) (s : State) (r : Record) (new : Option (List ℕ)) (closed : Bool) → s.out.closed ≡ closed → r.entries ≡ s.entries → new ≡ s.out.content → IsKept run s → (IsTrue s.out.closed → HasEnded r run.limit)
-    → (before : List ℕ) → run.content ≡ Some before → Wrote (command_of run) Halted r before new
+    → (before : List ℕ) → run.content ≡ Some before → Wrote (task_of run) Halted r before new
 begun run s r new true e entries out k ended before known =
     let d = k.output.due before known in
     let names = selected_names run.query in
@@ -128,7 +126,7 @@ begun run s r new false e entries out k ended before known =
 
 -- the whole text was written
 whole_text : (run : Run) (r : Record) (new : Option (List ℕ)) (k : Class) → is_whole k ≡ is_whole Ended → HasEnded r run.limit → (before : List ℕ) (rows : List Cells) → Answers run.query (merged_graph r.entries) rows
-    → new ≡ Some (before ++ result_text (selected_names run.query) rows) → Wrote (command_of run) k r before new
+    → new ≡ Some (before ++ result_text (selected_names run.query) rows) → Wrote (task_of run) k r before new
 whole_text run r new k e ended before rows answers is =
     let text = result_text (selected_names run.query) rows in
     record {
@@ -144,12 +142,12 @@ whole_text run r new k e ended before rows answers is =
 -- the whole text where the run is done, and else a prefix
 pub wrote : (run : Run) (s : State) (r : Record) (new : Option (List ℕ)) (x : Ran) → r.entries ≡ s.entries → new ≡ s.out.content → IsKept run s → (IsTrue s.out.closed → HasEnded r run.limit) → (x ≡ ran.Done → IsTrue s.out.closed)
     → (x ≡ ran.Done → (before : List ℕ) → run.content ≡ Some before → (rows : List Cells) × Answers run.query (merged_graph r.entries) rows × (new ≡ Some (before ++ result_text (selected_names run.query) rows)))
-    → (before : List ℕ) → run.content ≡ Some before → Wrote (command_of run) (class_of (ran_status x r)) r before new
+    → (before : List ℕ) → run.content ≡ Some before → Wrote (task_of run) (class_of (ran_status x r)) r before new
 wrote run s r new ran.Done entries out k ended done whole before known =
     let w = whole refl before known in
     whole_text run r new (class_of (ended_status r)) (ap is_whole (ended_class r)) (ended (done refl)) before w.0 w.1 w.2
 wrote run s r new ran.Output entries out k ended done whole before known = begun run s r new s.out.closed refl entries out k ended before known
-wrote run s r new ran.Memory entries out k ended done whole before known = wrote_may (command_of run) Halted NoMemory r before new refl (begun run s r new s.out.closed refl entries out k ended before known)
+wrote run s r new ran.Memory entries out k ended done whole before known = wrote_may (task_of run) Halted NoMemory r before new refl (begun run s r new s.out.closed refl entries out k ended before known)
 
 -- ---- the web of a site
 
@@ -173,7 +171,7 @@ pub of_site : (run : Run) (site : List SiteEntry) (s : State) (r : Record) → r
     → IsTraversed r (seeds_of run) (rule_of run) run.limit
     → IfSome run.fetch.web (λ web. IsFaithful (outcome_of web run.body) r)
     → (r.queued ≡ [] → IfSome run.fetch.web (λ web. LooksUpReachable (outcome_of web run.body) r (seeds_of run) (rule_of run)))
-    → IsOfSite (command_of run) site r
+    → IsOfSite (task_of run) site r
 of_site run site s r entries o k traversed faithful exactly =
     let out = outcome_of (heard_at (web_of_site site)) run.body in
     let true_to : IsFaithful out r = subst (λ f. IfSome f.web (λ web. IsFaithful (outcome_of web run.body) r)) o faithful in
@@ -191,10 +189,10 @@ of_site run site s r entries o k traversed faithful exactly =
 -- ---- all of it
 
 pub run_evidence : (run : Run) (r : Record) (x : Ran) (status : Status) (new : Writing) → status ≡ ran_status x r → IsTraversed r (seeds_of run) (rule_of run) run.limit → IsOrdered r run.seeds (rule_of run) → (x ≡ ran.Done → HasEnded r run.limit)
-    → ((before : List ℕ) → run.content ≡ Some before → Wrote (command_of run) (class_of (ran_status x r)) r before new.bytes) → CountsFaults (output_fails (ran_status x r)) run.faults new.faults
-    → ((site : List SiteEntry) → IsOverSite run site → IsOfSite (command_of run) site r)
-    → StatusEvidence writing (λ c. c ≡ command_of run) (BeforeReport (RunRead run)) (Some r) (record { bytes = run.content; faults = run.faults }) new status
-run_evidence run r x status new e traversed ordered ended written faults site = subst (StatusEvidence writing (λ c. c ≡ command_of run) (BeforeReport (RunRead run)) (Some r) (record { bytes = run.content; faults = run.faults }) new) (sym e) (record {
+    → ((before : List ℕ) → run.content ≡ Some before → Wrote (task_of run) (class_of (ran_status x r)) r before new.bytes) → CountsFaults (output_fails (ran_status x r)) run.faults new.faults
+    → ((site : List SiteEntry) → IsOverSite run site → IsOfSite (task_of run) site r)
+    → StatusEvidence writing (λ c. c ≡ task_of run) (BeforeReport (RunRead run)) (Some r) (record { bytes = run.content; faults = run.faults }) new status
+run_evidence run r x status new e traversed ordered ended written faults site = subst (StatusEvidence writing (λ c. c ≡ task_of run) (BeforeReport (RunRead run)) (Some r) (record { bytes = run.content; faults = run.faults }) new) (sym e) (record {
   recorded = matches x r;
   traversed = λ c is. subst (λ z. Traversed z (class_of (ran_status x r)) r) (sym is) (record { traversed = traversed; ordered = ordered; ended = whole_if x r (HasEnded r run.limit) ended });
   written = λ c is before known. subst (λ z. Wrote z (class_of (ran_status x r)) r before new.bytes) (sym is) (written before known);

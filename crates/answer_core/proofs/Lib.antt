@@ -5,6 +5,5 @@ pub mod Turning
 pub mod Reports
 pub mod Complete
 pub mod Promising
-pub mod Seeds
 pub mod Reading
 pub mod Queries

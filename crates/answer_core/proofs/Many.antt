@@ -1,13 +1,12 @@
 -- More links are reachable than may be looked up, exactly where a run ended at its limit with a link queued.
-use Rattle.std.proofs.Common.{ℕ, ◌≡◌, ◌≢◌, ◌⊎◌, ◌+◌, ◌≤◌, ◌<◌, List, [], ◌∷◌, ◌++◌, inl, inr, refl, sym, ap, subst, ◌∙◌, arith, length, length-append}
+use Rattle.std.proofs.Common.{ℕ, ◌≡◌, ◌≢◌, ◌+◌, ◌≤◌, ◌<◌, List, [], ◌∷◌, ◌++◌, inl, inr, refl, sym, ap, subst, ◌∙◌, arith, length, length-append}
 use Rattle.std.proofs.lemmas.List.{length-map}
 use Rattle.rdf_terms.specs.Lists.{IsIn, Apart}
-use Rattle.rdf_terms.proofs.Members.{in_left, in_right, in_either}
 use Rattle.link_uri.specs.declared.link.Link.{Link}
 use Rattle.reachability.specs.declared.outcome.Outcome.{Outcome}
 use Rattle.reachability.specs.declared.record.Found.TheVariants.{Outcome as Told}
 use Rattle.reachability.specs.declared.record.Record.{Record}
-use Rattle.reachability.specs.Reach.{Text, Rule, GoesOn, IsPath, IsReachable, NoLink, HasOutcome}
+use Rattle.reachability.specs.Reach.{Text, Rule, GoesOn, IsPath, NoLink, HasOutcome}
 use Rattle.reachability.specs.Record.{IsTraversed, IsFaithful, LooksUpReachable, OutcomesOf, Unreached, entry_link, entry_links, named_links}
 use Rattle.std.specs.declared.option.Option.{Option}
 use Rattle.answer_core.specs.Headline.{IsBeyond}

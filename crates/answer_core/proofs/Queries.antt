@@ -1,16 +1,15 @@
 -- A text has at most one query, and none where it is refused; it is refused at one place, for one reason.
-use Rattle.std.proofs.Common.{ℕ, ◌≡◌, List, Option, Some, Result, Ok, Err, refl, sym, ap, ◌∙◌}
-use Rattle.std.specs.Prelude.{is_ok, unwrap_or}
+use Rattle.std.proofs.Common.{ℕ, ◌≡◌, List, Result, Ok, Err, refl, sym, ap, ◌∙◌}
+use Rattle.std.specs.Prelude.{is_ok}
 use Rattle.std.proofs.lemmas.Bool.{false≢true}
 use Rattle.algebra_core.specs.declared.query.Query.{Query}
 use Rattle.sparql_parser.specs.declared.fault.QueryFault.{QueryFault}
 use Rattle.sparql_parser.specs.declared.fault.QueryFault.TheVariants as faults
 use Rattle.sparql_parser.specs.Answer.{IsAnswer, most_bytes}
 use Rattle.sparql_parser.proofs.Unique.{only_answer}
-use Rattle.link_uri.specs.declared.link.Link.{Link}
-use Rattle.answer_core.specs.Command.{IsCommandOf, command_with, links_of}
-use Rattle.answer_core.specs.Words.{Arguments}
-use Rattle.answer_core.specs.declared.command.Command.{Command}
+use Rattle.answer_core.specs.Task.{IsTaskOf, task_with}
+use Rattle.command_words.specs.declared.command.Settings.{Settings}
+use Rattle.answer_core.specs.declared.task.Task.{Task}
 use Rattle.answer_core.specs.declared.status.QueryWhy.{QueryWhy}
 use Rattle.answer_core.specs.declared.status.QueryWhy.TheVariants as why
 use Rattle.answer_core.specs.Queries.{HasQuery, IsRefused}
@@ -22,15 +21,9 @@ query_or q (Err e) = q
 pub one_query : (text : List ℕ) (p q : Query) → HasQuery text (Ok p) → HasQuery text (Ok q) → p ≡ q
 one_query text p q h g = ap (query_or p) (only_answer text (Ok p) (Ok q) h g)
 
-pub same_some : {X : Type 0} (x y : X) → Some x ≡ Some y → x ≡ y
-same_some x y e = ap (λ o. unwrap_or o x) e
-
--- so the words ask for at most one command
-pub one_command : (a : Arguments) (seeds : List Link) (q : Query) (d : Command) → links_of a.seeds ≡ Some seeds → HasQuery a.query (Ok q) → IsCommandOf a d → d ≡ command_with a seeds q
-one_command a seeds q d l h x =
-    let same_seeds : d.seeds ≡ seeds = same_some d.seeds seeds (sym x.seeds ∙ l) in
-    let same_query : d.query ≡ q = one_query a.query d.query q x.query h in
-    x.is ∙ (λ i. command_with a (same_seeds i) (same_query i))
+-- so settings have at most one task
+pub one_task : (s : Settings) (q : Query) (t : Task) → HasQuery s.query (Ok q) → IsTaskOf s t → t ≡ task_with s q
+one_task s q t h x = x.is ∙ ap (task_with s) (one_query s.query t.query q x.query h)
 
 no_fault : (text : List ℕ) (q : Query) (f : QueryFault) → HasQuery text (Ok q) → IsAnswer text (Err f) → ⊥
 no_fault text q f h g = false≢true (ap is_ok (only_answer text (Err f) (Ok q) g h))

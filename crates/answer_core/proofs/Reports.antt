@@ -1,14 +1,13 @@
 -- From what was written to the report to what it received.
-use Rattle.std.proofs.Common.{ℕ, ◌≡◌, ◌≢◌, ◌≤◌, ◌+◌, ◌-◌, ◌⊎◌, List, Option, Some, None, inl, inr, refl, sym, ap, subst, ◌∙◌, arith, length, take}
+use Rattle.std.proofs.Common.{ℕ, ◌≡◌, ◌≢◌, ◌≤◌, ◌+◌, ◌-◌, List, Option, Some, None, inl, inr, refl, sym, ap, subst, ◌∙◌, arith, length}
 use Rattle.std.specs.Io.KnownBytes.{append_known}
-use Rattle.std.specs.Prelude.{IfSome, ◌^◌, min}
+use Rattle.std.specs.Prelude.{◌^◌, min}
 use Rattle.std.proofs.Math.Seq.{take-length}
 use Rattle.outer_ports.specs.Causes.{Rose, RoseOnce}
 use Rattle.reachability.specs.declared.record.Record.{Record}
-use Rattle.answer_core.specs.Codes.{ended_status}
 use Rattle.answer_core.specs.Headline.{Class, Ended, Halted, Refused, NoMemory, Unreported, class_of, CountsFaults, StatusMatchesRecord, ReceivedInstead, Reported}
 use Rattle.answer_core.specs.Reported.{IsTextOf, GrewByPrefix, Received, ReceivedPrefix, memory_line}
-use Rattle.answer_core.specs.Running.{failed_by, failed_report, Is, WroteReport, StatusAfterReport, report_fails}
+use Rattle.answer_core.specs.Running.{failed_by, Is, WroteReport, StatusAfterReport, report_fails}
 use Rattle.answer_core.specs.declared.status.Status.{Status}
 use Rattle.answer_core.specs.declared.status.Status.TheVariants.{Memory, Report}
 

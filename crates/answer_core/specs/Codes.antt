@@ -3,10 +3,11 @@ use Rattle.std.specs.Prelude.{ℕ, List, [], ◌∷◌}
 use Rattle.reachability.specs.declared.record.Record.{Record}
 use Rattle.run_report.specs.Report.{failures}
 use Rattle.answer_core.specs.declared.status.Status.{Status}
-use Rattle.answer_core.specs.declared.status.Status.TheVariants.{Ok, Partial, Limit, Query, Site, Input, Output, Memory, Report, NotBuilt}
+use Rattle.answer_core.specs.declared.status.Status.TheVariants.{Ok, Usage, Partial, Limit, Query, Site, Input, Output, Memory, Report, NotBuilt}
 
 abbrev pub code_of : Status → ℕ
 code_of Ok = 0
+code_of Usage = 2
 code_of Partial = 3
 code_of Limit = 4
 code_of (Query at why) = 5

@@ -1,13 +1,13 @@
--- What `answer_alone` promises, on one page. Five words of it are said elsewhere after the public standards, and may be taken as given: `HasQuery`
--- (the text is of a query), `HasSite` (the bytes are of a site), `outcome_of` (what a look-up in a web comes to), `IsReachable` (links lead from a
--- seed to a link) and `Answers` (rows answer a query over a graph).
+-- What `answer` and `answer_alone` promise, on one page. Six words of it are said elsewhere, after the public standards or by the formats, and may be taken
+-- as given: `HasQuery` (the text is of a query), `HasSite` (the bytes are of a site), `IsGenerated` (the site is the one that is made of a number),
+-- `outcome_of` (what a look-up in a web comes to), `IsReachable` (links lead from a seed to a link) and `Answers` (rows answer a query over a graph).
 use Rattle.std.specs.Prelude.{ℕ, ◌≡◌, ◌≢◌, ◌<◌, ◌≤◌, ◌+◌, ◌⊎◌, List, [], ◌++◌, Option, Some, None, IfSome, length, take}
 use Rattle.std.specs.Io.KnownBytes.{prepend_known, IsAtEnd}
 use Rattle.outer_ports.specs.Causes.{Rose, RoseOnce}
 use Rattle.rows_core.specs.Rows.{Cells}
 use Rattle.rdf_terms.specs.Lists.{IsIn, Apart}
 use Rattle.link_uri.specs.declared.link.Link.{Link}
-use Rattle.json_results.specs.Results.{head_text, result_text}
+use Rattle.result_writer.specs.Format.{head_text, result_text}
 use Rattle.algebra_core.specs.Query.{Answers}
 use Rattle.site_core.specs.Text.{Entry, site_limit}
 use Rattle.reachability.specs.declared.outcome.Outcome.{Outcome}
@@ -17,18 +17,19 @@ use Rattle.reachability.specs.Reach.{Text, Rule, IsReachable, HasOutcome}
 use Rattle.reachability.specs.Record.{IsTraversed, IsFaithful, HasEnded, LooksUpReachable, Unreached, merged_graph}
 use Rattle.doc_reader.specs.Outcome.{outcome_of}
 use Rattle.web_port.specs.SiteWeb.{web_of_site}
+use Rattle.site_core.specs.Generated.{IsGenerated}
 use Rattle.traverse_core.specs.Query.{selected_names}
 use Rattle.traverse_core.specs.Order.{IsOrdered}
-use Rattle.answer_core.specs.declared.command.Command.{Command}
+use Rattle.answer_core.specs.declared.task.Task.{Task}
 use Rattle.answer_core.specs.Codes.{ended_status}
-use Rattle.answer_core.specs.Command.{Asks, IsCommandOf, rule_of, seeds_of}
+use Rattle.answer_core.specs.Task.{Asked, Nothing, OverNetwork, OverInput, OverGenerated, Asks, AsksRefused, IsTaskOf, rule_of, seeds_of}
 use Rattle.answer_core.specs.Queries.{IsRefused}
 use Rattle.answer_core.specs.Sites.{Entries, FirstFault, HasSite}
 use Rattle.answer_core.specs.Reported.{GrewByPrefix, Received, ReceivedPrefix, memory_line}
-use Rattle.answer_core.specs.Words.{Arguments}
+use Rattle.command_words.specs.declared.command.Settings.{Settings}
 use Rattle.answer_core.specs.declared.status.QueryWhy.{QueryWhy}
 use Rattle.answer_core.specs.declared.status.Status.{Status}
-use Rattle.answer_core.specs.declared.status.Status.TheVariants.{Ok, Partial, Limit, Query, Site, Input, Output, Memory, Report, NotBuilt}
+use Rattle.answer_core.specs.declared.status.Status.TheVariants.{Ok, Usage, Partial, Limit, Query, Site, Input, Output, Memory, Report, NotBuilt}
 
 -- ---- how a run ends, in five classes
 
@@ -96,27 +97,27 @@ abbrev pub StatusMatchesRecord : Status → Option Record → Type 0
 StatusMatchesRecord status (Some r) = Holds ((row (class_of status)).has_record) (Unit {0}) × (class_of status ≡ Ended → status ≡ ended_status r)
 StatusMatchesRecord status None = Holds ((row (class_of status)).has_record) ⊥
 
--- the record is closed under the links that it knows, and all in it is reachable by them; each entry is of a link that was known before it, and the
--- queued links stand in the order in which they became known; and where the run came to its end nothing is queued or the limit is reached
-pub record Traversed (c : Command) (class : Class) (r : Record) : Type 0 where
-  pub traversed : IsTraversed r (seeds_of c) (rule_of c) c.limit
-  pub ordered : IsOrdered r c.seeds (rule_of c)
-  pub ended : Holds ((row class).is_whole) (HasEnded r c.limit)
+-- the record has the seeds and each link that the criterion finds in its documents, looked up or queued, and no other; each entry is of a link that was
+-- known before it, and the queued links stand in the order in which they became known; where the run came to its end nothing is queued or the limit is reached
+pub record Traversed (t : Task) (class : Class) (r : Record) : Type 0 where
+  pub traversed : IsTraversed r (seeds_of t) (rule_of t) t.limit
+  pub ordered : IsOrdered r t.seeds (rule_of t)
+  pub ended : Holds ((row class).is_whole) (HasEnded r t.limit)
 
 -- behind what the output held stand the first `count` bytes of the text of rows that answer the query over the merged graph of the record: the
 -- whole text where the run came to its end, and no more than its head as long as the record hasn't ended
-pub record Wrote (c : Command) (class : Class) (r : Record) (before : List ℕ) (after : Option (List ℕ)) : Type 0 where
+pub record Wrote (t : Task) (class : Class) (r : Record) (before : List ℕ) (after : Option (List ℕ)) : Type 0 where
   pub rows : List Cells
-  pub answers : Answers c.query (merged_graph r.entries) rows
+  pub answers : Answers t.query (merged_graph r.entries) rows
   pub count : ℕ
-  pub within : count ≤ length (result_text (selected_names c.query) rows)
-  pub is : after ≡ Some (before ++ take count (result_text (selected_names c.query) rows))
-  pub head : HasEnded r c.limit ⊎ (count ≤ length (head_text (selected_names c.query)))
-  pub whole : Holds ((row class).is_whole) (count ≡ length (result_text (selected_names c.query) rows))
+  pub within : count ≤ length (result_text (selected_names t.query) rows)
+  pub is : after ≡ Some (before ++ take count (result_text (selected_names t.query) rows))
+  pub head : HasEnded r t.limit ⊎ (count ≤ length (head_text (selected_names t.query)))
+  pub whole : Holds ((row class).is_whole) (count ≡ length (result_text (selected_names t.query) rows))
 
 -- the same, of an output that says what it holds
-abbrev pub Written : Command → Class → Option (List ℕ) → Option (List ℕ) → Record → Type 0
-Written c class old new r = (before : List ℕ) → old ≡ Some before → Wrote c class r before new
+abbrev pub Written : Task → Class → Option (List ℕ) → Option (List ℕ) → Record → Type 0
+Written t class old new r = (before : List ℕ) → old ≡ Some before → Wrote t class r before new
 
 -- ---- the web
 
@@ -129,25 +130,35 @@ pub record IsBeyond (out : Link → Option Outcome) (r : Record) (seeds : List T
 
 -- each entry says what the web answers for its link; where nothing is queued the links looked up are exactly the reachable ones, which are no
 -- more than the limit; and where the limit is reached and a link is queued they are more
-pub record IsOfWeb (c : Command) (web : ToldWeb) (r : Record) : Type 0 where
-  pub faithful : IsFaithful (outcome_of web c.body) r
-  pub exactly : r.queued ≡ [] → LooksUpReachable (outcome_of web c.body) r (seeds_of c) (rule_of c)
-  pub within : r.queued ≡ [] → IsBeyond (outcome_of web c.body) r (seeds_of c) (rule_of c) c.limit → ⊥
-  pub beyond : r.queued ≢ [] → length r.entries ≡ c.limit → IsBeyond (outcome_of web c.body) r (seeds_of c) (rule_of c) c.limit
+pub record IsOfWeb (t : Task) (web : ToldWeb) (r : Record) : Type 0 where
+  pub faithful : IsFaithful (outcome_of web t.body) r
+  pub exactly : r.queued ≡ [] → LooksUpReachable (outcome_of web t.body) r (seeds_of t) (rule_of t)
+  pub within : r.queued ≡ [] → IsBeyond (outcome_of web t.body) r (seeds_of t) (rule_of t) t.limit → ⊥
+  pub beyond : r.queued ≢ [] → length r.entries ≡ t.limit → IsBeyond (outcome_of web t.body) r (seeds_of t) (rule_of t) t.limit
 
--- the text is of the query of a command, and the record is of a run of it over the web that is meant
-pub record RanOver (a : Arguments) (IsMeant : ToldWeb → Type 0) (r : Record) : Type 0 where
-  pub command : Command
-  pub asked : IsCommandOf a command
+-- the text of the settings is of the query of a task, and the record is of a run of it over the web that is meant
+pub record RanOver (s : Settings) (IsMeant : ToldWeb → Type 0) (r : Record) : Type 0 where
+  pub task : Task
+  pub asked : IsTaskOf s task
   pub web : ToldWeb
   pub meant : IsMeant web
-  pub of_web : IsOfWeb command web r
+  pub of_web : IsOfWeb task web r
+
+-- the web is that of the site
+abbrev pub IsWebOfSite : List Entry → ToldWeb → Type 0
+IsWebOfSite site web = web ≡ heard_at (web_of_site site)
 
 -- the bytes are a site, and the web is that of the site
 pub record IsWebOf (bytes : List ℕ) (web : ToldWeb) : Type 0 where
   pub site : List Entry
   pub text : HasSite bytes (Entries site)
-  pub is : web ≡ heard_at (web_of_site site)
+  pub is : IsWebOfSite site web
+
+-- the web is that of the site that is made of the number
+pub record IsWebOfGenerated (n : ℕ) (web : ToldWeb) : Type 0 where
+  pub site : List Entry
+  pub made : IsGenerated n 0 site
+  pub is : IsWebOfSite site web
 
 -- no link of the record is unreachable
 abbrev pub NoneUnreached : Record → Type 0
@@ -155,17 +166,32 @@ NoneUnreached r = (u : Text) → Unreached r.entries u → ⊥
 
 -- ---- what was read
 
+-- what is refused, where no input is read: the text of the query
+abbrev pub QueryRefusal : Settings → Status → Type 0
+QueryRefusal s Usage = ⊥
+QueryRefusal s (Query at why) = IsRefused s.query at why
+QueryRefusal s (Site at) = ⊥
+QueryRefusal s Input = ⊥
+QueryRefusal s NotBuilt = ⊥
+QueryRefusal s status = Unit {0}
+
+-- there is a record of a run over the web that is meant, or the query is refused
+pub record WebRead (s : Settings) (IsMeant : ToldWeb → Type 0) (status : Status) (trace : Option Record) : Type 0 where
+  pub run : IfSome trace (λ r. RanOver s IsMeant r × NoneUnreached r)
+  pub refusal : QueryRefusal s status
+
 -- what is refused, and where; `ended` is that the input was read to its End
-abbrev pub Refusal : Arguments → Status → List ℕ → Type 0 → Type 0
-Refusal a (Query at why) bytes ended = ended × ((site : List Entry) × HasSite bytes (Entries site)) × IsRefused a.query at why
-Refusal a (Site at) bytes ended = HasSite bytes (FirstFault at) × (ended ⊎ (length bytes ≡ site_limit + 1))
-Refusal a NotBuilt bytes ended = ⊥
-Refusal a status bytes ended = Unit {0}
+abbrev pub Refusal : Settings → Status → List ℕ → Type 0 → Type 0
+Refusal s Usage bytes ended = ⊥
+Refusal s (Query at why) bytes ended = ended × ((site : List Entry) × HasSite bytes (Entries site)) × IsRefused s.query at why
+Refusal s (Site at) bytes ended = HasSite bytes (FirstFault at) × (ended ⊎ (length bytes ≡ site_limit + 1))
+Refusal s NotBuilt bytes ended = ⊥
+Refusal s status bytes ended = Unit {0}
 
 -- these bytes were read: all where there is a record, which is of a run over their site
-pub record InputRead (a : Arguments) (status : Status) (trace : Option Record) (bytes : List ℕ) (ended : Type 0) : Type 0 where
-  pub run : IfSome trace (λ r. ended × RanOver a (IsWebOf bytes) r × NoneUnreached r)
-  pub refusal : Refusal a status bytes ended
+pub record InputRead (s : Settings) (status : Status) (trace : Option Record) (bytes : List ℕ) (ended : Type 0) : Type 0 where
+  pub run : IfSome trace (λ r. ended × RanOver s (IsWebOf bytes) r × NoneUnreached r)
+  pub refusal : Refusal s status bytes ended
 
 -- what an input or an output shows of itself: the bytes left in it or those that it holds, where it says so, and how often it failed
 pub record Shows (P : Type 0) : Type 0 where
@@ -176,19 +202,35 @@ pub record Shows (P : Type 0) : Type 0 where
 abbrev pub ReadToEnd : {I : Type 0} → Shows I → (I → ℕ) → I → I → Type 0
 ReadToEnd i ends old new = Rose (ends old) (ends new) × IsAtEnd (i.bytes new)
 
--- where the words are not of the built form, or a seed has no link, nothing is read
-pub record HasRead {I : Type 0} (i : Shows I) (ends : I → ℕ) (asked : Option Arguments) (old new : I) (status : Status) (trace : Option Record) : Type 0 where
-  pub words : asked ≡ None → ((status ≡ NotBuilt) ⊎ (status ≡ Memory)) × (trace ≡ None) × (new ≡ old)
-  pub input : (a : Arguments) → asked ≡ Some a → (bytes : List ℕ) × (i.bytes old ≡ prepend_known bytes (i.bytes new)) × InputRead a status trace bytes (ReadToEnd i ends old new)
+-- by what the words ask for: words that ask for nothing, and those for the network, are answered so, or for want of memory, and nothing is read; the
+-- site of the input is read from it; and a generated one leaves it unread
+abbrev pub ReadsFor : {I : Type 0} → Shows I → (I → ℕ) → Asked → I → I → Status → Option Record → Type 0
+ReadsFor i ends Nothing old new status trace = ((status ≡ Usage) ⊎ (status ≡ Memory)) × (trace ≡ None) × (new ≡ old)
+ReadsFor i ends OverNetwork old new status trace = ((status ≡ NotBuilt) ⊎ (status ≡ Memory)) × (trace ≡ None) × (new ≡ old)
+ReadsFor i ends (OverInput s) old new status trace = (bytes : List ℕ) × (i.bytes old ≡ prepend_known bytes (i.bytes new)) × InputRead s status trace bytes (ReadToEnd i ends old new)
+ReadsFor i ends (OverGenerated n s) old new status trace = WebRead s (IsWebOfGenerated n) status trace × (new ≡ old)
+
+pub record HasRead {I : Type 0} (i : Shows I) (ends : I → ℕ) (asked : Asked) (old new : I) (status : Status) (trace : Option Record) : Type 0 where
+  pub reads : ReadsFor i ends asked old new status trace
   pub input_faults : CountsFaults (input_fails status) (i.faults old) (i.faults new)
+
+-- the site of the input is known, and reading it doesn't fail, where the words ask for it
+abbrev pub IsReadable : {I : Type 0} → Shows I → Asked → I → I → Type 0
+IsReadable i (OverInput s) old new = ((bytes : List ℕ) × (site : List Entry) × (i.bytes old ≡ Some bytes) × HasSite bytes (Entries site)) × (Rose (i.faults old) (i.faults new) → ⊥)
+IsReadable i asked old new = Unit {0}
+
+-- the input is known to be no site, and reading it doesn't fail
+abbrev pub IsUnreadable : {I : Type 0} → Shows I → Asked → I → I → Type 0
+IsUnreadable i (OverInput s) old new = ((bytes : List ℕ) × (i.bytes old ≡ Some bytes) × ((site : List Entry) → HasSite bytes (Entries site) → ⊥)) × (Rose (i.faults old) (i.faults new) → ⊥)
+IsUnreadable i asked old new = ⊥
 
 -- ---- all of it
 
 -- what stands behind a status: the record, what was written, and what was read, of which `Read` says all
-pub record StatusEvidence {S : Type 0} (o : Shows S) (asks : Command → Type 0) (Read : Status → Option Record → Type 0) (trace : Option Record) (old new : S) (status : Status) : Type 0 where
+pub record StatusEvidence {S : Type 0} (o : Shows S) (asks : Task → Type 0) (Read : Status → Option Record → Type 0) (trace : Option Record) (old new : S) (status : Status) : Type 0 where
   pub recorded : StatusMatchesRecord status trace
-  pub traversed : (c : Command) → asks c → IfSome trace (Traversed c (class_of status))
-  pub written : (c : Command) → asks c → IfSome trace (Written c (class_of status) (o.bytes old) (o.bytes new))
+  pub traversed : (t : Task) → asks t → IfSome trace (Traversed t (class_of status))
+  pub written : (t : Task) → asks t → IfSome trace (Written t (class_of status) (o.bytes old) (o.bytes new))
   pub untouched : trace ≡ None → new ≡ old
   pub output_faults : CountsFaults (output_fails status) (o.faults old) (o.faults new)
   pub read : Read status trace
@@ -213,13 +255,17 @@ Reported Unreported evidence status trace old new failed = IfSome trace (λ r. R
 abbrev pub RanToEnd : Status → Type 0
 RanToEnd status = (class_of status ≡ Ended) ⊎ (class_of status ≡ NoMemory)
 
--- all that `answer_alone` promises. Over an input that is known to be a site, and without faults, the run of a query comes to its end (`complete`);
--- over such an input, and without a fault of it, a query that is refused is answered so, at the place of its first fault (`refused`)
-pub record Promised {I S R : Type 0} (i : Shows I) (ends : I → ℕ) (o : Shows S) (p : Shows R) (asked : Option Arguments) (status : Status) (trace : Option Record) (input_old input_new : I) (out_old out_new : S) (report_old report_new : R) : Type 0 where
+-- the input is refused, at some place
+abbrev pub IsSiteFault : Status → Type 0
+IsSiteFault status = (at : ℕ) × (status ≡ Site at)
+
+-- all that the top calls promise of what the words ask for. Over an input that is known to be a site, or over a generated one, and without faults, the run of
+-- a task comes to its end (`complete`); where its query is refused that is answered, at the place of its first fault (`refused`); and an input that is
+-- known to be no site is answered so (`unreadable`)
+pub record Promised {I S R : Type 0} (i : Shows I) (ends : I → ℕ) (o : Shows S) (p : Shows R) (asked : Asked) (status : Status) (trace : Option Record) (input_old input_new : I) (out_old out_new : S) (report_old report_new : R) : Type 0 where
   pub evidence : StatusEvidence o (Asks asked) (HasRead i ends asked input_old input_new) trace out_old out_new status
   pub report : Reported (class_of status) (StatusEvidence o (Asks asked) (HasRead i ends asked input_old input_new) trace out_old out_new) status trace (p.bytes report_old) (p.bytes report_new) (Rose (p.faults report_old) (p.faults report_new))
   pub report_faults : CountsFaults ((row (class_of status)).report_fails) (p.faults report_old) (p.faults report_new)
-  pub complete : (c : Command) → Asks asked c → (bytes : List ℕ) (site : List Entry) → i.bytes input_old ≡ Some bytes → HasSite bytes (Entries site) → (Rose (i.faults input_old) (i.faults input_new) → ⊥)
-      → (Rose (o.faults out_old) (o.faults out_new) → ⊥) → (Rose (p.faults report_old) (p.faults report_new) → ⊥) → RanToEnd status
-  pub refused : (a : Arguments) → asked ≡ Some a → (at : ℕ) (why : QueryWhy) → IsRefused a.query at why → (bytes : List ℕ) (site : List Entry) → i.bytes input_old ≡ Some bytes → HasSite bytes (Entries site)
-      → (Rose (i.faults input_old) (i.faults input_new) → ⊥) → (status ≡ Query at why) ⊎ (class_of status ≡ NoMemory)
+  pub complete : (t : Task) → Asks asked t → IsReadable i asked input_old input_new → (Rose (o.faults out_old) (o.faults out_new) → ⊥) → (Rose (p.faults report_old) (p.faults report_new) → ⊥) → RanToEnd status
+  pub refused : (at : ℕ) (why : QueryWhy) → AsksRefused asked at why → IsReadable i asked input_old input_new → (status ≡ Query at why) ⊎ (class_of status ≡ NoMemory)
+  pub unreadable : IsUnreadable i asked input_old input_new → IsSiteFault status ⊎ (class_of status ≡ NoMemory)

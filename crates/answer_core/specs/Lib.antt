@@ -1,8 +1,8 @@
 pub mod Codes
-pub mod Command
+pub mod Task
 pub mod Headline
 pub mod Queries
+pub mod ReportText
 pub mod Reported
 pub mod Running
 pub mod Sites
-pub mod Words

@@ -1,5 +1,5 @@
 -- What the text of a query says (docs/FORMATS.md, "Queries").
-use Rattle.std.specs.Prelude.{ℕ, ◌≡◌, List, Result, Ok, Err}
+use Rattle.std.specs.Prelude.{ℕ, ◌≡◌, List, Result, Err}
 use Rattle.algebra_core.specs.declared.query.Query.{Query}
 use Rattle.sparql_parser.specs.Answer.{IsAnswer, most_bytes}
 use Rattle.sparql_parser.specs.declared.fault.QueryFault.{QueryFault}

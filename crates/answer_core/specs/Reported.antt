@@ -7,11 +7,15 @@ use Rattle.answer_core.specs.Codes.{code_of}
 use Rattle.answer_core.specs.declared.status.QueryWhy.{QueryWhy}
 use Rattle.answer_core.specs.declared.status.QueryWhy.TheVariants as why
 use Rattle.answer_core.specs.declared.status.Status.{Status}
-use Rattle.answer_core.specs.declared.status.Status.TheVariants.{Ok, Partial, Limit, Query, Site, Input, Output, Memory, Report, NotBuilt}
+use Rattle.answer_core.specs.declared.status.Status.TheVariants.{Ok, Usage, Partial, Limit, Query, Site, Input, Output, Memory, Report, NotBuilt}
 
 -- the line for want of memory
 abbrev pub memory_line : List ℕ
 memory_line = codes "status 10 memory\n"
+
+-- the lines for words that are no command
+abbrev pub usage_lines : List ℕ
+usage_lines = codes "status 2 usage\nltq site [OPTIONS] QUERY SEED...\nltq web [OPTIONS] QUERY SEED...\nltq self [OPTIONS] N\n"
 
 -- the word for the reason of a refusal
 abbrev pub why_word : QueryWhy → List ℕ
@@ -30,9 +34,10 @@ site_line at = codes "status 6 site at " ++ (decimal at ++ codes "\n")
 
 -- ---- the text of a status
 
--- without a record: one line
+-- without a record: one line, but for words that are no command
 abbrev pub IsLineOf : Status → List ℕ → Type 0
 IsLineOf Ok text = ⊥
+IsLineOf Usage text = text ≡ usage_lines
 IsLineOf Partial text = ⊥
 IsLineOf Limit text = ⊥
 IsLineOf (Query at reason) text = text ≡ query_line at reason

@@ -1,9 +1,9 @@
 -- What the parts of the top call tell each other: a run before its report, and how the report turns its status.
-use Rattle.std.specs.Prelude.{ℕ, ◌≡◌, ◌⊎◌, ◌≢◌, ◌≤◌, List, Option, Some, None, IfSome, length}
+use Rattle.std.specs.Prelude.{ℕ, ◌≡◌, ◌⊎◌, ◌≢◌, ◌≤◌, List, Option, None, IfSome, length}
 use Rattle.std.specs.Io.KnownBytes.{append_known}
 use Rattle.outer_ports.specs.Causes.{RoseOnce}
 use Rattle.reachability.specs.declared.record.Record.{Record}
-use Rattle.site_core.specs.Text.{Entry, SiteText, site_limit}
+use Rattle.site_core.specs.Text.{Entry, site_limit}
 use Rattle.reachability.specs.Web.{heard_at}
 use Rattle.web_port.specs.SiteWeb.{site_fetch, web_of_site}
 use Rattle.traverse_core.specs.declared.alone.Ran.{Ran}
@@ -13,10 +13,10 @@ use Rattle.sparql_parser.specs.Answer.{most_bytes}
 use Rattle.sparql_parser.specs.declared.fault.QueryFault.{QueryFault}
 use Rattle.sparql_parser.specs.declared.fault.QueryFault.TheVariants as faults
 use Rattle.answer_core.specs.Codes.{ended_status}
-use Rattle.answer_core.specs.declared.command.Command.{Command}
+use Rattle.answer_core.specs.declared.task.Task.{Task}
 use Rattle.answer_core.specs.Headline.{Class, Duty, row, Ended, Halted, Refused, NoMemory, Unreported, class_of, Shows, IsOfWeb, NoneUnreached, InputRead}
 use Rattle.answer_core.specs.Reported.{GrewByPrefix}
-use Rattle.answer_core.specs.Words.{Arguments}
+use Rattle.command_words.specs.declared.command.Settings.{Settings}
 use Rattle.answer_core.specs.declared.status.QueryWhy.TheVariants as why
 use Rattle.answer_core.specs.declared.status.Status.{Status}
 use Rattle.answer_core.specs.declared.status.Status.TheVariants.{Query, Output, Memory, Report, Input}
@@ -31,9 +31,9 @@ is_whole k = (row k).is_whole
 abbrev pub report_fails : Class → Duty
 report_fails k = (row k).report_fails
 
--- the command that a run is of
-abbrev pub command_of : Run → Command
-command_of run = record { query = run.query; seeds = run.seeds; criterion = run.criterion; limit = run.limit; body = run.body; tries = run.fetch.tries }
+-- the task that a run is of
+abbrev pub task_of : Run → Task
+task_of run = record { query = run.query; seeds = run.seeds; criterion = run.criterion; limit = run.limit; body = run.body; tries = run.fetch.tries }
 
 -- the run's look-ups are those in a site
 abbrev pub IsOverSite : Run → List Entry → Type 0
@@ -59,24 +59,21 @@ writing = record { bytes = λ w. w.bytes; faults = λ w. w.faults }
 abbrev pub BeforeReport : (Status → Option Record → Type 0) → Status → Option Record → Type 0
 BeforeReport read status trace = (class_of status ≢ Unreported) × read status trace
 
--- the record is of a run of the command over the site
-abbrev pub IsOfSite : Command → List Entry → Record → Type 0
-IsOfSite c site r = IsOfWeb c (heard_at (web_of_site site)) r × NoneUnreached r
+-- the record is of a run of the task over the site
+abbrev pub IsOfSite : Task → List Entry → Record → Type 0
+IsOfSite t site r = IsOfWeb t (heard_at (web_of_site site)) r × NoneUnreached r
 
 -- there is a record, and it is of the site whose look-ups they are
 abbrev pub RunRead : Run → Status → Option Record → Type 0
-RunRead run status trace = (trace ≢ None) × ((site : List Entry) → IsOverSite run site → IfSome trace (IsOfSite (command_of run) site))
+RunRead run status trace = (trace ≢ None) × ((site : List Entry) → IsOverSite run site → IfSome trace (IsOfSite (task_of run) site))
 
 -- there is a record, or memory ran out
-abbrev pub CommandRead : Command → List Entry → Status → Option Record → Type 0
-CommandRead c site status trace = (trace ≡ None → status ≡ Memory) × IfSome trace (IsOfSite c site)
+abbrev pub TaskRead : Task → List Entry → Status → Option Record → Type 0
+TaskRead t site status trace = (trace ≡ None → status ≡ Memory) × IfSome trace (IsOfSite t site)
 
--- the bytes of the site, whichever they are
-abbrev pub SiteRead : Arguments → List Entry → Status → Option Record → Type 0
-SiteRead a site status trace = (status ≢ Input) × ((bytes : List ℕ) → SiteText site bytes → InputRead a status trace bytes (length bytes ≤ site_limit))
-
-abbrev pub BytesRead : Arguments → List ℕ → Status → Option Record → Type 0
-BytesRead a bytes status trace = (status ≢ Input) × InputRead a status trace bytes (length bytes ≤ site_limit)
+-- the bytes were read whole, and they are a site's, or they are none
+abbrev pub BytesRead : Settings → List ℕ → Status → Option Record → Type 0
+BytesRead s bytes status trace = (status ≢ Input) × InputRead s status trace bytes (length bytes ≤ site_limit)
 
 -- ---- the report
 

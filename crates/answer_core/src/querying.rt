@@ -1,19 +1,16 @@
 //! The query of the words, and the run that it asks for.
-ghost use Rattle.std.specs.Prelude.{◌≡◌, ◌<◌, Some};
+ghost use Rattle.std.specs.Prelude.{◌≡◌, ◌<◌};
 ghost use Rattle.link_uri.specs.Links.{AreLinks};
-ghost use Rattle.answer_core.specs.Command.{IsCommandOf, command_with, links_of};
-ghost use Rattle.answer_core.specs.Headline.{StatusEvidence};
-ghost use Rattle.answer_core.specs.Running.{BeforeReport, SiteRead, fault_status};
-ghost use Rattle.answer_core.specs.Words.{view};
+ghost use Rattle.answer_core.specs.Task.{IsTaskOf, task_with};
+ghost use Rattle.answer_core.specs.Headline.{IsWebOfSite, StatusEvidence, WebRead};
+ghost use Rattle.answer_core.specs.Running.{BeforeReport, fault_status};
 
-use crate::command::Command;
-use crate::running::{Answer, run_command, without_record};
-use crate::words::Arguments;
+use crate::running::{Answer, run_task, without_record};
+use crate::task::Task;
 use crate::{QueryWhy, Status};
 use algebra_core::Query;
-use link_uri::Link;
+use command_words::Settings;
 use outer_ports::Sink;
-use rdf_terms::Seq;
 use site_core::Site;
 use sparql_parser::{MOST_BYTES, QueryFault, read_query};
 use std::alloc::Global;
@@ -42,35 +39,33 @@ fn status_of(fault: QueryFault) -> Status
     }
 }
 
-fn with_query(arguments: Arguments<'_>, seeds: Seq<Link>, query: Query) -> Command
-    ensures { result ≡ command_with (view arguments.entry) seeds query }
+fn with_query(settings: Settings, query: Query) -> Task
+    ensures { result ≡ task_with settings query }
 {
-    Command {
+    Task {
         query,
-        seeds,
-        criterion: arguments.criterion,
-        limit: arguments.limit,
-        body: arguments.body,
-        tries: arguments.tries,
+        seeds: settings.seeds,
+        criterion: settings.criterion,
+        limit: settings.limit,
+        body: settings.fetch.body,
+        tries: settings.fetch.tries,
     }
 }
 
 /// Reads the query, and runs it over the site.
 pub(crate) fn answer_query<S: Sink>(
     alloc: Global,
-    arguments: Arguments<'_>,
-    seeds: Seq<Link>,
+    settings: Settings,
     site: Site,
     out: S,
 ) -> Answer<S>
-    requires valid_links { AreLinks seeds }
-    requires links { links_of (view arguments).seeds ≡ Some seeds }
-    requires tries { 0 < arguments.tries }
-    ensures { StatusEvidence (record { bytes = S.content; faults = S.faults }) (IsCommandOf (view arguments.entry))
-        (BeforeReport (SiteRead (view arguments.entry) site)) result.trace out result.out result.status }
+    requires valid_links { AreLinks settings.seeds }
+    requires tries { 0 < settings.fetch.tries }
+    ensures { StatusEvidence (record { bytes = S.content; faults = S.faults }) (IsTaskOf settings)
+        (BeforeReport (WebRead settings (IsWebOfSite site))) result.trace out result.out result.status }
 {
-    match read_query(alloc, arguments.query) {
-        Ok(query) => run_command(alloc, with_query(arguments, seeds, query), site, out),
+    match read_query(alloc, settings.query.as_str()) {
+        Ok(query) => run_task(alloc, with_query(settings, query), site, out),
         Err(fault) => without_record(status_of(fault), out),
     }
 }

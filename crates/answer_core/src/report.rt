@@ -1,12 +1,15 @@
 //! The report of a run.
 ghost use Rattle.std.specs.Prelude.{◌≡◌, ◌≢◌, IfOk, None, codes};
+ghost use Rattle.std.specs.Option.{option_copied};
 ghost use Rattle.outer_ports.specs.Causes.{Rose};
 ghost use Rattle.answer_core.specs.Headline.{CountsFaults, NoMemory, Reported, StatusMatchesRecord, Unreported, class_of};
+ghost use Rattle.answer_core.specs.ReportText.{IsGiven, IsReportText, told_code as code_told};
 ghost use Rattle.answer_core.specs.Reported.{IsLineOf, IsTextOf};
 ghost use Rattle.answer_core.specs.Running.{Is, StatusAfterReport, WroteReport, report_fails};
 ghost use Rattle.answer_core.specs.Reported as spec;
 ghost use Rattle.answer_core.specs.Running as running;
 
+use crate::status::ended_status;
 use crate::{QueryWhy, Status};
 use outer_ports::{Sink, SinkFault, write_all};
 use rdf_terms::{ByteBuf, Memory};
@@ -15,6 +18,9 @@ use run_report::record_report;
 use std::alloc::Global;
 
 const MEMORY_LINE: &[u8] = b"status 10 memory\n";
+
+const USAGE_LINES: &[u8] =
+    b"status 2 usage\nltq site [OPTIONS] QUERY SEED...\nltq web [OPTIONS] QUERY SEED...\nltq self [OPTIONS] N\n";
 
 fn site_line(alloc: Global, at: usize) -> Result<ByteBuf, Memory>
     ensures { IfOk result (λ text. text ≡ spec.site_line at) }
@@ -55,6 +61,7 @@ fn line_of(alloc: Global, status: Status) -> Result<ByteBuf, Memory>
     ensures { IfOk result (IsLineOf status) }
 {
     match status {
+        Status::Usage => ByteBuf::from_slice(alloc, USAGE_LINES),
         Status::Query { at, why } => query_line(alloc, at, why),
         Status::Site { at } => site_line(alloc, at),
         Status::Input => ByteBuf::from_slice(alloc, b"status 7 input\n"),
@@ -72,6 +79,34 @@ fn text_of(alloc: Global, status: Status, trace: &Option<Record>) -> Result<Byte
     match trace {
         Some(trace) => record_report(alloc, status.code(), trace),
         None => line_of(alloc, status),
+    }
+}
+
+// The code that the text of a run's report names: with a report that failed that of the run's end.
+fn told_code(status: Status, trace: &Record) -> u8
+    ensures { result ≡ code_told status trace.now }
+{
+    match status {
+        Status::Report => ended_status(trace).code(),
+        _ => status.code(),
+    }
+}
+
+/// The text of the report (docs/FORMATS.md, "Report") of a status, and of the record of its run. With
+/// `Memory` it is one constant line; with `Report` it names the code of the run's end. It costs a
+/// line for each failed link and the sorting of those.
+pub fn report_text(
+    alloc: Global,
+    status: &Status,
+    trace: Option<&Record>,
+) -> Result<ByteBuf, Memory>
+    requires given { IsGiven status.now (option_copied trace) }
+    ensures value { IfOk result (λ text. IsReportText status.now (option_copied trace.entry) text) }
+{
+    match (*status, trace) {
+        (Status::Memory, _) => ByteBuf::from_slice(alloc, MEMORY_LINE),
+        (status, Some(trace)) => record_report(alloc, told_code(status, trace), trace),
+        (status, None) => line_of(alloc, status),
     }
 }
 

@@ -6,11 +6,11 @@ ghost use Rattle.web_port.specs.SiteWeb.{site_fetch};
 ghost use Rattle.traverse_core.specs.State.{is_running};
 ghost use Rattle.traverse_core.specs.Alone.{Serves};
 ghost use Rattle.answer_core.specs.Headline.{StatusEvidence};
-ghost use Rattle.answer_core.specs.Running.{BeforeReport, CommandRead, RunRead, command_of, ran_status, writing};
+ghost use Rattle.answer_core.specs.Running.{BeforeReport, TaskRead, RunRead, task_of, ran_status, writing};
 
 use crate::Status;
-use crate::command::Command;
 use crate::status::ended_status;
+use crate::task::Task;
 use outer_ports::Sink;
 use reachability::Record;
 use site_core::Site;
@@ -31,7 +31,7 @@ pub struct Answer<S> {
 const LANES: u16 = 8;
 
 fn settings(tries: u8, body: u64) -> FetchSettings
-    ensures { (result.lanes ≡ 8) × (result.tries ≡ tries) }
+    ensures { (result.lanes ≡ 8) × (result.tries ≡ tries) × (result.body ≡ body) × (result.via ≡ None) }
 {
     FetchSettings {
         lanes: LANES,
@@ -73,7 +73,7 @@ fn run_to_end<J: Job, S: Sink, F: Fetcher>(
     requires serves { Serves J.run (F.fetch fetcher.old) }
     requires body { body ≡ J.run.body }
     requires faults { J.run.faults ≡ run.out.faults }
-    ensures { StatusEvidence writing (λ c. c ≡ command_of J.run) (BeforeReport (RunRead J.run)) result.trace
+    ensures { StatusEvidence writing (λ t. t ≡ task_of J.run) (BeforeReport (RunRead J.run)) result.trace
         (record { bytes = J.run.content; faults = J.run.faults }) (record { bytes = S.content result.out; faults = S.faults result.out }) result.status }
 {
     let mut run = run;
@@ -87,27 +87,27 @@ fn run_to_end<J: Job, S: Sink, F: Fetcher>(
     }
 }
 
-fn run_named<J: Job, S: Sink>(alloc: Global, command: Command, site: Site, out: S) -> Answer<S>
-    requires valid_links { AreLinks command.seeds }
-    requires tries { 0 < command.tries }
-    requires command { command ≡ command_of J.run }
-    requires fetch { J.run.fetch ≡ site_fetch site command.tries }
+fn run_named<J: Job, S: Sink>(alloc: Global, task: Task, site: Site, out: S) -> Answer<S>
+    requires valid_links { AreLinks task.seeds }
+    requires tries { 0 < task.tries }
+    requires task { task ≡ task_of J.run }
+    requires fetch { J.run.fetch ≡ site_fetch site task.tries }
     requires out { (S.content out ≡ J.run.content) × (S.faults out ≡ J.run.faults) }
-    ensures { StatusEvidence (record { bytes = S.content; faults = S.faults }) (λ c. c ≡ command)
-        (BeforeReport (CommandRead command site)) result.trace out result.out result.status }
+    ensures { StatusEvidence (record { bytes = S.content; faults = S.faults }) (λ t. t ≡ task)
+        (BeforeReport (TaskRead task site)) result.trace out result.out result.status }
 {
     let Ok(links) = SiteLinks::new(alloc, site) else {
         return without_record(Status::Memory, out);
     };
     let mut links = links;
-    let Command {
+    let Task {
         query,
         seeds,
         criterion,
         limit,
         body,
         tries,
-    } = command;
+    } = task;
     let Ok(fetcher) = links.fetcher(&settings(tries, body)) else {
         return without_record(Status::Memory, out);
     };
@@ -126,11 +126,11 @@ fn run_named<J: Job, S: Sink>(alloc: Global, command: Command, site: Site, out: 
 }
 
 /// Looks up links in the site and writes the answers.
-pub(crate) fn run_command<S: Sink>(alloc: Global, command: Command, site: Site, out: S) -> Answer<S>
-    requires valid_links { AreLinks command.seeds }
-    requires tries { 0 < command.tries }
-    ensures { StatusEvidence (record { bytes = S.content; faults = S.faults }) (λ c. c ≡ command)
-        (BeforeReport (CommandRead command site)) result.trace out result.out result.status }
+pub(crate) fn run_task<S: Sink>(alloc: Global, task: Task, site: Site, out: S) -> Answer<S>
+    requires valid_links { AreLinks task.seeds }
+    requires tries { 0 < task.tries }
+    ensures { StatusEvidence (record { bytes = S.content; faults = S.faults }) (λ t. t ≡ task)
+        (BeforeReport (TaskRead task site)) result.trace out result.out result.status }
 {
-    run_named::<Brand, S>(alloc, command, site, out)
+    run_named::<Brand, S>(alloc, task, site, out)
 }

@@ -22,6 +22,8 @@ pub enum QueryWhy {
 pub enum Status {
     /// All that is reachable was looked up, the whole answer is written, and nothing failed.
     Ok,
+    /// The words are no command.
+    Usage,
     /// The same, but a link was refused or couldn't be reached.
     Partial,
     /// As many links were looked up as may be, and more are queued.
@@ -38,7 +40,7 @@ pub enum Status {
     Memory,
     /// Writing the report failed, after a run that came to its end.
     Report,
-    /// The words are of a form that isn't built yet, or a seed has no link.
+    /// The words are a command that isn't built yet.
     NotBuilt,
 }
 
@@ -49,6 +51,7 @@ impl Status {
     {
         match self {
             Status::Ok => 0,
+            Status::Usage => 2,
             Status::Partial => 3,
             Status::Limit => 4,
             Status::Query { .. } => 5,

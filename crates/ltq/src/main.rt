@@ -1,13 +1,13 @@
 //! The program `ltq`: SPARQL SELECT queries over Linked Data, by following links.
 //!
-//! It makes the real streams, calls `answer_alone`, and exits with the code of its status.
+//! It makes the real streams, calls `answer`, and exits with the code of its status.
 #![tactic(auto)]
 
 ghost use Rattle.std.specs.Prelude.{◌≡◌};
 ghost use Rattle.std.specs.Process.{exit_status};
 ghost use Rattle.answer_core.specs.Codes.{code_of};
 
-use answer_core::{Status, answer_alone};
+use answer_core::{Status, answer};
 use outer_ports::{ReadSource, WriteSink};
 use std::alloc::Global;
 use std::process::ExitCode;
@@ -39,12 +39,12 @@ fn main(rt: HostRuntime) -> ExitCode {
     let words = match words(&rt) {
         Ok(words) => words,
         Err(error) if is_want_of_memory(&error) => return exit_code(Status::Memory),
-        // A word is no text, so the words are of no built form.
+        // A word is no text, so the words are no command.
         Err(_) => Vec::new(rt.alloc()),
     };
     let mut input = ReadSource::new(rt.reader());
     let out = WriteSink::new(io::writer(&rt));
     let mut report = WriteSink::new(rt.stderr());
-    let answer = answer_alone(rt.alloc(), &words, &mut input, out, &mut report);
+    let answer = answer(rt.alloc(), &words, &mut input, out, &mut report);
     exit_code(answer.status)
 }

@@ -1,5 +1,4 @@
-use Rattle.std.proofs.Common.{◌≡◌, ◌≢◌, ◌≤◌, sym, subst, ◌∙◌, arith}
-use Rattle.traverse_core.specs.declared.alone.Ran.TheVariants as ran
+use Rattle.std.proofs.Common.{sym, subst}
 use Rattle.answer_core.specs.Headline.{CountsFaults, output_fails}
 use Rattle.answer_core.specs.Running.{ran_status}
 use Rattle.answer_core.proofs.Ends.{counts, wrote, of_site, run_evidence}
