@@ -1,0 +1,4 @@
+pub mod HeadEnds
+pub mod Held
+pub mod Turning
+pub mod Giving

@@ -1,0 +1,7 @@
+pub mod Apart
+pub mod HeadEnd
+pub mod Writing
+pub mod Peering
+pub mod Words
+pub mod Serving
+pub mod Memory
