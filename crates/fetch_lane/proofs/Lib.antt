@@ -1,0 +1,3 @@
+pub mod ResponseLemmas
+pub mod LaneLemmas
+pub mod ConnLemmas
