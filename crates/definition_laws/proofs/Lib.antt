@@ -12,6 +12,16 @@ pub mod Undone
 pub mod Characters
 pub mod Texts
 pub mod Strings
+pub mod Tags
 pub mod TurtleTexts
 pub mod QueryTexts
+pub mod Followed
 pub mod Named
+pub mod RequestsDecided
+pub mod Declared
+pub mod Apart
+pub mod InOrder
+pub mod OneLine
+pub mod CutLines
+pub mod CellsBegun
+pub mod CellsCounted

@@ -1,16 +1,17 @@
 -- What the grammar of Turtle reads past the word of a directive is what the directive names.
-use Rattle.std.proofs.Common.{◌≡◌, List, [], ◌∷◌, ◌++◌, Bool, true, false, Option, Some, None, ◌⊎◌, inl, inr, ℕ, refl, sym, ap, subst, ◌∙◌, append_assoc}
+use Rattle.std.proofs.Common.{◌≡◌, List, [], ◌∷◌, ◌++◌, Bool, true, false, Option, Some, None, ℕ, refl, subst}
 use Rattle.rdf_terms.specs.declared.term.Term.{Term}
 use Rattle.rdf_terms.specs.declared.triple.Triple.{Triple}
-use Rattle.grammar_model.specs.Parsers.{Return, Fail, Advance, Peek, Call, Done, Rejected, Reads, give, misfit, skip, skip_end, look, call, call_not, first_of_list}
+use Rattle.grammar_model.specs.Parsers.{Advance, Done, Reads, first_of_list}
 use Rattle.turtle_reader.specs.declared.token_fault.Fault.{Fault}
 use Rattle.turtle_reader.specs.declared.kind.Kind.{Kind}
 use Rattle.turtle_reader.specs.declared.kind.Kind.TheVariants as kinds
 use Rattle.turtle_reader.specs.declared.kind.Token.{Token}
-use Rattle.turtle_reader.specs.Grammar.{Nonterminal, TurtleDoc, Statement, Triples, BlankSubject, PredicateObjectList, VerbObjects, MorePredicates, ObjectList, MoreObjects, Object, BlankObject, RDFLiteral, Collection, Items, Item, MoreItems, Value, G, E, body, turtle, kind_of, need, need_by, choose, begins_verb, is_comma, is_dot, is_end, is_iri_ref, is_namespace, is_semicolon, is_shut_paren, is_shut_square, literal_by, datatype_by, statement_by, triples_by, verb_by, object_by, collection_of, more_items_of}
+use Rattle.turtle_reader.specs.Grammar.{Nonterminal, TurtleDoc, Statement, Triples, BlankSubject, PredicateObjectList, VerbObjects, MorePredicates, ObjectList, MoreObjects, Object, BlankObject, RDFLiteral, Collection, Items, Item, MoreItems, G, body, turtle, kind_of, need, need_by, choose, begins_verb, is_comma, is_dot, is_end, is_iri_ref, is_namespace, is_semicolon, is_shut_paren, is_shut_square, literal_by, datatype_by, statement_by, triples_by, verb_by, object_by, collection_of, more_items_of}
 use Rattle.definition_laws.specs.Directives.{DirectivesFit, behind_first, is_base_word, is_prefix_word}
+use Rattle.definition_laws.proofs.Followed.{Complete as CompleteBy, Sound as SoundBy, Leads as LeadsBy, sound_past, reads_complete}
 
--- ---- what a directive's word leaves due, and tokens behind which nothing is due
+-- ---- what a directive's word leaves due
 
 data Due : Type 0 where
   Free AnIri ANamespace : Due
@@ -31,12 +32,20 @@ next AnIri k = Free
 next ANamespace k = AnIri
 
 abbrev Complete : Due → List Token → Type 0
-Complete due [] = due ≡ Free
-Complete due (t ∷ ts) = (allowed due t.kind ≡ true) × Complete (next due t.kind) ts
+Complete due ts = CompleteBy kind_of Free allowed next due ts
 
-complete_then : (due : Due) (xs ys : List Token) → Complete due xs → Complete Free ys → Complete due (xs ++ ys)
-complete_then due [] ys h more = subst (λ d. Complete d ys) (sym h) more
-complete_then due (t ∷ xs) ys h more = (h.0, complete_then (next due t.kind) xs ys h.1 more)
+abbrev Sound : {A : Type 0} → Due → Kind → G A → Type 0
+Sound due seen p = SoundBy kind_of Free allowed next due seen p
+
+abbrev Leads : Due → (Kind → Bool) → Due → Type 0
+Leads due test after = LeadsBy kind_of Free allowed next due test after
+
+none_past : (due : Due) → allowed due (kind_of None) ≡ true → ⊥
+none_past Free e = absurd cc
+none_past AnIri e = absurd cc
+none_past ANamespace e = absurd cc
+
+-- ---- tokens behind which nothing is due fit
 
 iri_first : (ts : List Token) → Complete AnIri ts → is_iri_ref (kind_of (first_of_list ts)) ≡ true
 iri_first [] h = absurd cc
@@ -64,20 +73,7 @@ complete_fits due (t ∷ ts) h = (
   complete_fits (next due t.kind) ts h.1,
 )
 
--- ---- programs that go only past a token that is allowed, whose kind they have seen, to where nothing is due
-
-abbrev Sound : {A : Type 0} → Due → Kind → G A → Type 0
-Sound due seen (Return v) = due ≡ Free
-Sound due seen Fail = Unit {0}
-Sound due seen (Advance p) = (allowed due seen ≡ true) × Sound (next due seen) kinds.Unknown p
-Sound due seen (Peek by') = (x : Option Token) → Sound due (kind_of x) (by' x)
-Sound due seen (Call q k) = (due ≡ Free) × ((v : Value q) → Sound Free kinds.Unknown (k v))
-
-abbrev Leads : Due → (Kind → Bool) → Due → Type 0
-Leads due test after = (k : Kind) → test k ≡ true → (allowed due k ≡ true) × (next due k ≡ after)
-
-sound_past : {A : Type 0} (due after : Due) (test : Kind → Bool) (p : G A) (k : Kind) → Leads due test after → Sound after kinds.Unknown p → test k ≡ true → Sound due k (Advance p)
-sound_past due after test p k leads h e = ((leads k e).0, subst (λ d. Sound d kinds.Unknown p) (sym (leads k e).1) h)
+-- ---- ways of the grammar's programs
 
 sound_choose : {A : Type 0} (due : Due) (k : Kind) (b : Bool) (p q : G A) → (b ≡ true → Sound due k p) → Sound due k q → Sound due k (choose b p q)
 sound_choose due k true p q hp hq = hp refl
@@ -88,11 +84,11 @@ sound_need_by due k true p h = h refl
 sound_need_by due k false p h = tt
 
 sound_need : {A : Type 0} (due after : Due) (test : Kind → Bool) (p : G A) → Leads due test after → Sound after kinds.Unknown p → Sound due kinds.Unknown (need test p)
-sound_need due after test p leads h = λ x. sound_need_by due (kind_of x) (test (kind_of x)) p (sound_past due after test p (kind_of x) leads h)
+sound_need due after test p leads h = λ x. sound_need_by due (kind_of x) (test (kind_of x)) p (sound_past kind_of Free allowed next due after test p (kind_of x) leads h)
 
 -- past the next token if it is such a one, or another way
 sound_if : {A : Type 0} (test : Kind → Bool) (k : Kind) (p q : G A) → Leads Free test Free → Sound Free kinds.Unknown p → Sound Free k q → Sound Free k (choose (test k) (Advance p) q)
-sound_if test k p q leads hp hq = sound_choose Free k (test k) (Advance p) q (sound_past Free Free test p k leads hp) hq
+sound_if test k p q leads hp hq = sound_choose Free k (test k) (Advance p) q (sound_past kind_of Free allowed next Free Free test p k leads hp) hq
 
 past_dot : Leads Free is_dot Free
 past_dot kinds.Dot e = (refl, refl)
@@ -120,7 +116,7 @@ past_iri k e = (e, refl)
 past_namespace : Leads ANamespace is_namespace AnIri
 past_namespace k e = (e, refl)
 
--- ---- the parts of the grammar are such programs
+-- ---- the parts of the grammar are sound
 
 sound_datatype : (lexical : List ℕ) (k : Kind) → Sound Free k (datatype_by lexical k)
 sound_datatype lexical (kinds.IriRef i) = (refl, refl)
@@ -194,44 +190,7 @@ module _ (doc : List ℕ) where
 
   -- ---- so what they read is complete
 
-  module _ (stop : Fault) where
-    abbrev Fits : (q : Nonterminal) → Due → List Token → E q → Type 0
-    Fits q due ts (Done v us) = (read : List Token) × (ts ≡ read ++ us) × Complete due read
-    Fits q due ts (Rejected x) = Unit {0}
-
-    fits_past : (q : Nonterminal) (due : Due) (t : Token) (ts : List Token) (o : E q) → allowed due t.kind ≡ true → Fits q (next due t.kind) ts o → Fits q due (t ∷ ts) o
-    fits_past q due t ts (Done v us) a h = (t ∷ h.0, ap (λ l. t ∷ l) h.1, (a, h.2))
-    fits_past q due t ts (Rejected x) a h = tt
-
-    fits_then : (q : Nonterminal) (ts us read : List Token) (o : E q) → ts ≡ read ++ us → Complete Free read → Fits q Free us o → Fits q Free ts o
-    fits_then q ts us read (Done v vs) e c h = (read ++ h.0, e ∙ ap (λ l. read ++ l) h.1 ∙ sym (append_assoc read h.0 vs), complete_then Free read h.0 c h.2)
-    fits_then q ts us read (Rejected x) e c h = tt
-
-    -- what has been seen is the first token, if anything
-    abbrev Seen : Kind → List Token → Type 0
-    Seen seen ts = (seen ≡ kinds.Unknown) ⊎ (seen ≡ kind_of (first_of_list ts))
-
-    none_past : (due : Due) → allowed due kinds.Unknown ≡ true → ⊥
-    none_past Free e = absurd cc
-    none_past AnIri e = absurd cc
-    none_past ANamespace e = absurd cc
-
-    fits : (m : Nonterminal) (p : G (Value m)) (ts : List Token) (o : E m) (due : Due) (seen : Kind) → Sound due seen p → Seen seen ts → Reads (turtle doc stop) m p ts o → Fits m due ts o
-    fits m (Return v) ts _ due seen s see give = ([], refl, s)
-    fits m Fail ts _ due seen s see misfit = tt
-    fits m (Advance p) (t ∷ ts) o due seen s see (skip r) = elim see [
-      | inl unseen ↦ absurd (none_past due (ap (λ k. allowed due k) (sym unseen) ∙ s.0))
-      | inr is ↦
-          fits_past m due t ts o (ap (λ k. allowed due k) (sym is) ∙ s.0) (fits m p ts o (next due t.kind) kinds.Unknown (subst (λ k. Sound (next due k) kinds.Unknown p) is s.1) (inl refl) r)
-    ]
-    fits m (Advance p) [] _ due seen s see skip_end = tt
-    fits m (Peek by') ts o due seen s see (look r) = fits m (by' (first_of_list ts)) ts o due (kind_of (first_of_list ts)) (s (first_of_list ts)) (inr refl) r
-    fits m (Call q k) ts o due seen s see (call {us} {v} r more) =
-        let first = fits q (body doc q) ts (Done v us) Free kinds.Unknown (sound_body q) (inl refl) r in
-        subst (λ d. Fits m d ts o) (sym s.0) (fits_then m ts us first.0 o first.1 first.2 (fits m (k v) us o Free kinds.Unknown (s.1 v) (inl refl) more))
-    fits m (Call q k) ts _ due seen s see (call_not r) = tt
-
-    pub directives_fit : (before triples : List Triple) (ts rest : List Token) → Reads (turtle doc stop) (TurtleDoc before) (body doc (TurtleDoc before)) ts (Done triples rest) → (read : List Token) × (ts ≡ read ++ rest) × DirectivesFit read
-    directives_fit before triples ts rest r =
-        let is = fits (TurtleDoc before) (body doc (TurtleDoc before)) ts (Done triples rest) Free kinds.Unknown (sound_body (TurtleDoc before)) (inl refl) r in
-        (is.0, is.1, complete_fits Free is.0 is.2)
+  pub directives_fit : (stop : Fault) (before triples : List Triple) (ts rest : List Token) → Reads (turtle doc stop) (TurtleDoc before) (body doc (TurtleDoc before)) ts (Done triples rest) → (read : List Token) × (ts ≡ read ++ rest) × DirectivesFit read
+  directives_fit stop before triples ts rest r =
+      let is = reads_complete (turtle doc stop) kind_of Free allowed next none_past sound_body (TurtleDoc before) ts rest triples r in
+      (is.0, is.1, complete_fits Free is.0 is.2)

@@ -19,7 +19,7 @@ use Rattle.definition_laws.proofs.Texts.{IsSmall, begins, alone, inner_is, Shuts
 
 -- ---- the byte of a quote
 
-abbrev mark : Quote → ℕ
+abbrev pub mark : Quote → ℕ
 mark quotes.Double = 34
 mark quotes.Single = 39
 
@@ -46,7 +46,7 @@ unfolding ascii_class
 no_backslash quotes.Double = refl
 no_backslash quotes.Single = refl
 
-then_quote : (quote : Quote) (s : Rule) (ls : List Letter) → Matches class_of (Then (One (is_quote quote)) s) ls → (rest : List Letter) × (bytes_of ls ≡ mark quote ∷ bytes_of rest) × Matches class_of s rest
+pub then_quote : (quote : Quote) (s : Rule) (ls : List Letter) → Matches class_of (Then (One (is_quote quote)) s) ls → (rest : List Letter) × (bytes_of ls ≡ mark quote ∷ bytes_of rest) × Matches class_of s rest
 then_quote quote s ls m = let b = begins (is_quote quote) s ls (quote_small quote) m in (b.1, b.2 ∙ ap (λ n. n ∷ bytes_of b.1) (quote_is quote b.0 b.3), b.4)
 
 last_quote : (quote : Quote) (ls : List Letter) → Matches class_of (One (is_quote quote)) ls → bytes_of ls ≡ mark quote ∷ []

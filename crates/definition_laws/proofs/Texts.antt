@@ -8,9 +8,9 @@ use Rattle.std.proofs.lemmas.Str.{encode_ascii}
 use Rattle.terminals.specs.declared.class.Class.{Class}
 use Rattle.terminals.specs.declared.class.Class.TheVariants as classes
 use Rattle.terminals.specs.Class.{classified, ascii_class}
-use Rattle.terminals.specs.Groups.{is_hex, is_label_first, is_name, is_string_escape, is_less, is_greater, is_colon, is_underscore, is_backslash, is_lower_u, is_upper_u, is_local, is_local_first, is_local_escape, is_dot, is_iri}
+use Rattle.terminals.specs.Groups.{is_hex, is_string_escape, is_less, is_greater, is_colon, is_underscore, is_backslash, is_lower_u, is_upper_u, is_local, is_local_first, is_local_escape, is_dot, is_iri}
 use Rattle.terminals.specs.Rules.{Rule, Nothing, One, Then, Either, Many, Number, maybe}
-use Rattle.terminals.specs.Terminals.{is_scalar, is_iri_code, with_dots, local_escape, string_escape, by_number, iri_escape, iri_ref, name, prefix, local, local_part, percent, blank_label}
+use Rattle.terminals.specs.Terminals.{is_scalar, is_iri_code, local_escape, string_escape, by_number, iri_escape, iri_ref, name, prefix, local, local_part, percent}
 use Rattle.terminals.specs.Values.{iri_text, prefix_text, local_text, label_text, unescaped, inner}
 use Rattle.terminals.specs.Texts.{plain}
 use Rattle.terminals.proofs.Decoding.{is_text}
@@ -64,7 +64,7 @@ codes_differ : (q : ℕ) (bad : Class) (ls : List Letter) → classified q ≡ b
 codes_differ q bad [] is h = tt
 codes_differ q bad (x ∷ ls) is h = ((λ e. h.0 (ap (λ n. classified n) e ∙ is)), codes_differ q bad ls is h.1)
 
-lacks_byte : (q : ℕ) (bad : Class) (r : Rule) (ls : List Letter) → q < 128 → classified q ≡ bad → lacks bad r ≡ true → Matches class_of r ls → HasNo q (bytes_of ls)
+pub lacks_byte : (q : ℕ) (bad : Class) (r : Rule) (ls : List Letter) → q < 128 → classified q ≡ bad → lacks bad r ≡ true → Matches class_of r ls → HasNo q (bytes_of ls)
 lacks_byte q bad r ls lt is h m = none_have q ls lt (codes_differ q bad ls is (clean class_of bad r ls h m))
 
 -- ---- rules whose texts are closed: no escape is cut
@@ -197,9 +197,8 @@ local_utf8 ls m =
 
 -- ---- labels
 
-pub label_utf8 : (ls : List Letter) → Matches class_of blank_label ls → IsUtf8 (label_text (bytes_of ls))
-label_utf8 ls m =
-    let label : Rule = Then (One is_label_first) (with_dots is_name) in
+pub label_utf8 : (label : Rule) (ls : List Letter) → Matches class_of (Then (One is_underscore) (Then (One is_colon) label)) ls → IsUtf8 (label_text (bytes_of ls))
+label_utf8 label ls m =
     let u = begins is_underscore (Then (One is_colon) label) ls (is_small is_underscore refl refl refl) m in
     let c = begins is_colon label u.1 (is_small is_colon refl refl refl) u.4 in
     subst IsUtf8 (sym (ap (drop 2) (u.2 ∙ ap (λ l. u.0 ∷ l) c.2))) (are_utf8 c.1)

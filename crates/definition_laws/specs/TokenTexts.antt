@@ -7,11 +7,12 @@ use Rattle.turtle_lexer.specs.declared.kind.TurtleKind.TheVariants as turtle
 use Rattle.sparql_lexer.specs.declared.kind.QueryKind.{QueryKind}
 use Rattle.sparql_lexer.specs.declared.kind.QueryKind.TheVariants as query
 
--- a token of Turtle with these bytes stands for a text, where its kind asks for one
+-- a token of Turtle or of N-Triples with these bytes stands for a text, where its kind asks for one
 abbrev pub HasTurtleText : TurtleKind → List ℕ → Type 0
 HasTurtleText turtle.IriRef bytes = plain (iri_text bytes) ≢ None
 HasTurtleText turtle.Name bytes = (plain (prefix_text bytes) ≢ None) × (plain (local_text bytes) ≢ None)
 HasTurtleText turtle.BlankLabel bytes = plain (label_text bytes) ≢ None
+HasTurtleText turtle.At bytes = plain (tag_text bytes) ≢ None
 HasTurtleText turtle.Quoted bytes = plain (string_text bytes) ≢ None
 HasTurtleText turtle.Integer bytes = plain bytes ≢ None
 HasTurtleText turtle.Decimal bytes = plain bytes ≢ None

@@ -5,16 +5,25 @@
 //! more costs no other crate's proof.
 #![tactic(auto)]
 
+mod blocks;
+mod cells;
+mod declarations;
 mod directives;
 mod heads;
+mod lines;
 mod numbers;
 mod queries;
 mod references;
 mod scalars;
+mod serving;
 mod token_texts;
 
+pub use crate::blocks::blocks_are_apart_where_a_brace_stands;
+pub use crate::cells::cells_begin_where_items_do;
+pub use crate::declarations::what_a_declaration_names_stands_behind_its_word;
 pub use crate::directives::what_a_directive_names_stands_behind_its_word;
 pub use crate::heads::only_a_wanted_body_counts;
+pub use crate::lines::tokens_stand_on_lines;
 pub use crate::numbers::a_written_number_reads_back;
 pub use crate::queries::{
     a_query_has_fewer_names_than_the_limit, each_selected_variable_has_its_name,
@@ -22,4 +31,8 @@ pub use crate::queries::{
 };
 pub use crate::references::parts_make_up_the_text;
 pub use crate::scalars::each_scalar_is_decoded;
-pub use crate::token_texts::{each_token_of_a_query_has_a_text, each_token_of_turtle_has_a_text};
+pub use crate::serving::each_request_has_a_response;
+pub use crate::token_texts::{
+    each_token_of_a_query_has_a_text, each_token_of_ntriples_has_a_text,
+    each_token_of_turtle_has_a_text,
+};
