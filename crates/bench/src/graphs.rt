@@ -64,17 +64,21 @@ fn count_found(graph: &Graph, shape: &str) -> Result<usize, Memory> {
     Ok(found)
 }
 
+fn count_in(graph: &Graph, way: &str) -> Result<usize, Fault> {
+    match way {
+        "insert" => Ok(graph.len()),
+        "s" | "p" | "o" | "sp" | "so" | "po" | "spo" => Ok(count_found(graph, way)?),
+        _ => Err(Fault::Words),
+    }
+}
+
 fn count(alloc: Global, way: &str, number: u32) -> Result<usize, Fault> {
     let triples = triples(alloc, number)?;
     if way == "make" {
         return Ok(triples.len());
     }
     let graph = graph(alloc, triples)?;
-    match way {
-        "insert" => Ok(graph.len()),
-        "s" | "p" | "o" | "sp" | "so" | "po" | "spo" => Ok(count_found(&graph, way)?),
-        _ => Err(Fault::Words),
-    }
+    count_in(&graph, way)
 }
 
 pub(crate) fn answer(alloc: Global, words: &[String]) -> Result<String, Fault> {

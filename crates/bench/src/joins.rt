@@ -75,16 +75,20 @@ fn feed_right(node: &mut Node, right: Option<Row>) -> Result<usize, Memory> {
 }
 
 // How many rows come out.
-fn feed(alloc: Global, sides: Sides) -> Result<usize, Memory> {
+fn feed_all(node: &mut Node, sides: Sides) -> Result<usize, Memory> {
     let Sides { lefts, rights } = sides;
-    let mut node = Node::new(alloc, 3)?;
     let mut rights = rights.into_iter();
     let mut made: usize = 0;
     for left in lefts {
         made = made.saturating_add(node.feed_left(left)?.len());
-        made = made.saturating_add(feed_right(&mut node, rights.next())?);
+        made = made.saturating_add(feed_right(node, rights.next())?);
     }
     Ok(made)
+}
+
+fn feed(alloc: Global, sides: Sides) -> Result<usize, Memory> {
+    let mut node = Node::new(alloc, 3)?;
+    feed_all(&mut node, sides)
 }
 
 fn make_sides(alloc: Global, kind: &str, number: u64) -> Result<Sides, Fault> {

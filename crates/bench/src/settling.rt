@@ -116,11 +116,10 @@ fn seeds(alloc: Global) -> Result<Vec<Link>, Memory>
 
 // How many links a traversal has settled, where nothing is in flight.
 fn settled_by<J: Job>(run: Traversal<J, MemorySink>) -> usize {
-    if run.in_flight() == 0 {
-        run.finish().trace.entries.len()
-    } else {
-        0
+    if run.in_flight() > 0 {
+        return 0;
     }
+    run.finish().trace.entries.len()
 }
 
 // How many links a traversal of the commands has settled, where nothing is in flight.

@@ -145,3 +145,63 @@ fn a_wire_has_the_trouble_that_it_was_told_to_have(rt: HostRuntime) {
     assert!(rt; wait(&mut wire) == Waited::Quiet);
     assert!(rt; wire.counts() == TROUBLE);
 }
+
+// Each wait comes behind one more opening, so that the new connection waits last.
+#[test]
+fn waits_name_the_connections_by_turns(rt: HostRuntime) {
+    let mut wire = sure_wire(rt.alloc(), &rt);
+    assert!(rt; wait(&mut wire) == Waited::Ready(0));
+    assert!(rt; wait(&mut wire) == Waited::Ready(0));
+    assert!(rt; wait(&mut wire) == Waited::Ready(1));
+    assert!(rt; wait(&mut wire) == Waited::Ready(0));
+    assert!(rt; wait(&mut wire) == Waited::Ready(2));
+}
+
+fn open_and_close<W: Wire>(wire: &mut W) -> bool {
+    match wire.open("a.test", 80) {
+        Ok(Opened::Conn(conn)) => {
+            wire.close(conn);
+            true
+        }
+        _ => false,
+    }
+}
+
+#[test]
+fn a_closed_connection_is_named_no_more(rt: HostRuntime) {
+    let mut wire = sure_wire(rt.alloc(), &rt);
+    assert!(rt; open_and_close(&mut wire));
+    assert!(rt; wait(&mut wire) == Waited::Ready(1));
+    assert!(rt; wait(&mut wire) == Waited::Ready(1));
+}
+
+fn push_call(calls: &mut Vec<u64>, number: u64, rt: &impl Abort) {
+    calls.push(number).expect(rt, "memory");
+}
+
+// A receive at call 2 fails, a send at call 4, and a wait at call 6.
+fn failing_wire(alloc: Global, rt: &impl Abort) -> MemoryWire {
+    let mut fail = call(alloc, rt, 2);
+    push_call(&mut fail, 4, rt);
+    push_call(&mut fail, 6, rt);
+    let hosts = hosts(alloc, rt);
+    MemoryWire::new(alloc, hosts, 4, fail, Vec::new(alloc), Vec::new(alloc))
+}
+
+const FAILURES: WireCounts = WireCounts {
+    faults: 3,
+    misses: 0,
+    stalls: 1,
+    breaks: 2,
+    ends: 0,
+    quiets: 0,
+};
+
+#[test]
+fn each_call_that_fails_counts_one_fault(rt: HostRuntime) {
+    let mut wire = failing_wire(rt.alloc(), &rt);
+    assert!(rt; answers(&mut wire, b"ask", Received::Failed, b"........"));
+    assert!(rt; answers(&mut wire, b"ask", Received::Failed, b"........"));
+    assert!(rt; wait(&mut wire) == Waited::Failed);
+    assert!(rt; wire.counts() == FAILURES);
+}

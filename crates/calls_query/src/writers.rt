@@ -1,23 +1,22 @@
 //! Tests of `result_writer`.
-use json_results::head;
 use outer_ports::MemorySink;
 use rdf_terms::TextBuf;
-use result_writer::{RowWriter, Written};
+use result_writer::{ResultFormat, RowWriter, Written};
 use std::alloc::Global;
 use std::process::Abort;
 
 const TEXT: &[u8] = b"{\"head\":{\"vars\":[\"x\"]},\"results\":{\"bindings\":[\n]}}\n";
 
-fn names(alloc: Global, rt: &impl Abort) -> Vec<TextBuf> {
+fn format(alloc: Global, rt: &impl Abort) -> ResultFormat {
     let name = TextBuf::from_str(alloc, "x").expect(rt, "memory");
-    Vec::from_array(alloc, [name]).expect(rt, "memory")
+    ResultFormat::new(alloc, &[name]).expect(rt, "memory")
 }
 
 // The head is written, then nothing waits, and it is closed.
 fn closed(alloc: Global, rt: &impl Abort) -> RowWriter<MemorySink> {
-    let names = names(alloc, rt);
-    let start = head(alloc, names.as_slice()).expect(rt, "memory");
-    let mut writer = RowWriter::new(alloc, names, start, MemorySink::new(alloc, 1000));
+    let format = format(alloc, rt);
+    let start = format.head(alloc).expect(rt, "memory");
+    let mut writer = RowWriter::new(alloc, format, start, MemorySink::new(alloc, 1000));
     assert!(rt; !writer.is_clear());
     assert!(rt; writer.write(alloc).expect(rt, "memory") == Written::Wrote);
     assert!(rt; writer.write(alloc).expect(rt, "memory") == Written::Clear);

@@ -1,5 +1,5 @@
 //! Tests of public calls: boxes and lists, the queue of links, criteria, webs, sites, what they serve, fetchers, reports,
-//! and the top call.
+//! words, and the top call.
 //!
 //! Each public call of these libraries that can answer want of memory is made here with ample memory,
 //! and its answer compared with what `docs/FORMATS.md` and the standards say. They stand here since a
@@ -9,6 +9,8 @@
 
 #[cfg(test)]
 mod answers;
+#[cfg(test)]
+mod commands;
 #[cfg(test)]
 mod criteria;
 #[cfg(test)]
@@ -23,3 +25,5 @@ mod sites;
 mod tables;
 #[cfg(test)]
 mod webs;
+#[cfg(test)]
+mod words;

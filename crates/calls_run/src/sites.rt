@@ -1,5 +1,5 @@
 //! Tests of `site_core`.
-use site_core::{Site, SiteFault, read_site, write_site};
+use site_core::{Site, SiteFault, make_site, read_site, write_site};
 use std::alloc::Global;
 use std::process::Abort;
 
@@ -134,4 +134,30 @@ fn places_each_fault(rt: HostRuntime) {
     for (old, new, place) in FAULTS {
         assert!(rt; has_fault_at(rt.alloc(), &rt, old, new, place), "{new}");
     }
+}
+
+// The sites of one document, of two that are 1 apart, and of five that are 3 apart.
+const ONE_MADE: &str =
+    "site 1\nlink http://self.test/d0\nstatus 200\ntype application/n-triples\nbody 179\n<http://self.test/d0#it> <http://self.test/v#next> <http://self.test/d0#it> .\n<http://self.test/d0#it> <http://self.test/v#mark> \"0\"^^<http://www.w3.org/2001/XMLSchema#integer> .\n\nlink http://self.test/v\nstatus 200\ntype text/turtle\nbody 26\n<#next> <#label> \"next\" .\n\nend\n";
+
+const TWO_MADE: &str =
+    "site 1\nlink http://self.test/d0\nstatus 200\ntype application/n-triples\nbody 257\n<http://self.test/d0#it> <http://self.test/v#next> <http://self.test/d1#it> .\n<http://self.test/d0#it> <http://self.test/v#next> <http://self.test/d1#it> .\n<http://self.test/d0#it> <http://self.test/v#mark> \"0\"^^<http://www.w3.org/2001/XMLSchema#integer> .\n\nlink http://self.test/d1\nstatus 200\ntype text/turtle\nbody 75\n@prefix v: <http://self.test/v#> .\n<#it> v:next <d0#it> .\n<#it> v:mark 1 .\n\nlink http://self.test/v\nstatus 200\ntype text/turtle\nbody 26\n<#next> <#label> \"next\" .\n\nend\n";
+
+const FIVE_MADE: &str =
+    "site 1\nlink http://self.test/d0\nstatus 200\ntype application/n-triples\nbody 335\n<http://self.test/d0#it> <http://self.test/v#next> <http://self.test/d1#it> .\n<http://self.test/d0#it> <http://self.test/v#next> <http://self.test/d2#it> .\n<http://self.test/d0#it> <http://self.test/v#next> <http://self.test/d1#it> .\n<http://self.test/d0#it> <http://self.test/v#mark> \"0\"^^<http://www.w3.org/2001/XMLSchema#integer> .\n\nlink http://self.test/d1\nstatus 200\ntype text/turtle\nbody 121\n@prefix v: <http://self.test/v#> .\n<#it> v:next <d3#it> .\n<#it> v:next <d4#it> .\n<#it> v:next <d4#it> .\n<#it> v:mark 1 .\n\nlink http://self.test/d2\nstatus 200\ntype application/n-triples\nbody 179\n<http://self.test/d2#it> <http://self.test/v#next> <http://self.test/d2#it> .\n<http://self.test/d2#it> <http://self.test/v#mark> \"2\"^^<http://www.w3.org/2001/XMLSchema#integer> .\n\nlink http://self.test/d3\nstatus 200\ntype text/turtle\nbody 75\n@prefix v: <http://self.test/v#> .\n<#it> v:next <d0#it> .\n<#it> v:mark 3 .\n\nlink http://self.test/d4\nstatus 200\ntype application/n-triples\nbody 179\n<http://self.test/d4#it> <http://self.test/v#next> <http://self.test/d3#it> .\n<http://self.test/d4#it> <http://self.test/v#mark> \"4\"^^<http://www.w3.org/2001/XMLSchema#integer> .\n\nlink http://self.test/v\nstatus 200\ntype text/turtle\nbody 26\n<#next> <#label> \"next\" .\n\nend\n";
+
+fn makes(alloc: Global, rt: &impl Abort, n: u64, step: u64, text: &str) -> bool {
+    if n < 1 || n > 2000 {
+        return false;
+    }
+    let site = make_site(alloc, n, step).expect(rt, "memory");
+    write_site(alloc, &site).expect(rt, "memory").as_slice() == text.as_bytes()
+}
+
+#[test]
+fn makes_sites_of_two_numbers(rt: HostRuntime) {
+    let alloc = rt.alloc();
+    assert!(rt; makes(alloc, &rt, 1, 0, ONE_MADE));
+    assert!(rt; makes(alloc, &rt, 2, 1, TWO_MADE));
+    assert!(rt; makes(alloc, &rt, 5, 3, FIVE_MADE));
 }

@@ -9,18 +9,23 @@
 mod algebra;
 mod algebra_case;
 mod cases;
+mod criteria;
 mod documents;
 mod expressions;
+mod generated;
 mod iri;
 mod joins;
 mod link;
 mod messages;
 mod queries;
+mod report;
+mod rows;
 mod serving;
 mod site;
 mod terms;
 mod tokens;
 mod turtle;
+mod words;
 
 use rdf_terms::Memory;
 use std::alloc::Global;
@@ -36,6 +41,10 @@ fn answer_of_kind(alloc: Global, kind: &str, line: &str) -> Result<String, Memor
         "join" => joins::answer(alloc, line),
         "site" => site::answer(alloc, line),
         "serve" => serving::answer(alloc, line),
+        "generated" => generated::answer(alloc, line),
+        "criteria" => criteria::answer(alloc, line),
+        "report" => report::answer(alloc, line),
+        "rows" => rows::answer(alloc, line),
         "http" | "http_pieces" => messages::answer(alloc, line),
         "terms" => terms::forms(alloc, line),
         "forms" => terms::literal_forms(alloc, line),
@@ -46,6 +55,7 @@ fn answer_of_kind(alloc: Global, kind: &str, line: &str) -> Result<String, Memor
         "sparql_tokens" => tokens::query_answer(alloc, line),
         "sparql" => queries::answer(alloc, line),
         "turtle" => turtle::answer(alloc, line),
+        "words" => words::answer(alloc, line),
         _ => cases::plain(alloc, "no kind"),
     }
 }

@@ -47,7 +47,7 @@ fn literal(
 }
 
 /// A term of four fields: its kind, its text, and what a kind has beside it.
-fn term_of(
+pub fn term_of(
     alloc: Global,
     kind: &str,
     text: &str,
