@@ -66,6 +66,10 @@ def serve_case(v):
     return "x%s x%s" % (v["site"], v["request"]), "x" + v["response"]
 
 
+def generated_case(v):
+    return "%d %d" % (v["n"], v["step"]), "x" + v["hex"]
+
+
 def heard_text(heard):
     if isinstance(heard, str):
         return heard
@@ -308,7 +312,58 @@ def join_orders():
     return cases
 
 
-KINDS = {"link": link_case, "iri": iri_case, "site": site_case, "serve": serve_case, "turtle_tokens": tokens_case, "turtle": turtle_case, "ntriples": document_case, "terms": terms_case,
+def digits(text):
+    return "x" + text.encode("utf-8").hex()
+
+
+def algebra_term(text):
+    """A term as the words of the module `algebra_case` have it."""
+    kind, lexical, more, tag = term_parts(text)
+    parts = {"iri": [lexical], "blank": [lexical, more], "literal": [lexical, more, tag]}[kind]
+    return " ".join([kind] + [shown(part) for part in parts])
+
+
+def criteria_case(v):
+    """Patterns and triples: for each criterion a digit for each triple, and the links."""
+    spots = [" ".join("?%d" % s["var"] if isinstance(s, dict) else algebra_term(s) for s in p) for p in v["patterns"]]
+    words = ["width.4 |", "bgp.%d" % len(spots)] + ["pattern " + p for p in spots] + ["|"]
+    words += ["triple " + " ".join(map(algebra_term, t)) for t in v["triples"]]
+    answers = []
+    for criterion in ("all", "none", "match"):
+        selected = "".join("1" if s else "0" for s in v["selects"][criterion])
+        answers.append("=%s links%s" % (selected, "".join(" " + shown(link[0]) for link in v["links_of"][criterion])))
+    return " ".join(words), "; ".join(answers)
+
+
+def rows_case(v):
+    """A query's text and rows: the head, each row, and the tail."""
+    case = digits(v["query"])
+    for row in v["rows"]:
+        cells = ["-" if c is None else " ".join(map(digits, term_parts(c))) for c in row["cells"]]
+        case += "|" + ";".join(["first" if row["first"] else "next"] + cells)
+    return case, " ".join(digits(text) for text in [v["head"]] + [row["text"] for row in v["rows"]] + [v["tail"]])
+
+
+def found_words(found):
+    kind, what = next(iter(found.items()))
+    if kind == "document":
+        return "document"
+    if kind == "moved":
+        return "moved;" + digits(what[0])
+    return "%s;%s;%d" % (kind, what[0], what[1] or 0)
+
+
+def report_case(v):
+    """A status, and the record where there is one: the text of the report."""
+    status = v["status"]
+    case = " ".join([status["name"]] + [str(status[k]) for k in ("at", "why") if k in status])
+    if v["record"] is not None:
+        parts = ["record"] + ["entry;%s;%s" % (digits(link), found_words(found)) for link, found in v["record"]["entries"]]
+        case = "|".join([case] + parts + ["queued;" + digits(link) for link in v["record"]["queued"]])
+    return case, digits(v["text"])
+
+
+KINDS = {"link": link_case, "iri": iri_case, "site": site_case, "generated": generated_case, "criteria": criteria_case, "rows": rows_case, "report": report_case, "serve": serve_case, "turtle_tokens": tokens_case, "turtle": turtle_case, "ntriples": document_case, "terms": terms_case,
          "values": values_case, "expressions": expressions_case, "sparql_tokens": query_tokens_case, "sparql": query_case, "http": message_case, "http_pieces": pieces_case, "join": join_case}
 
 # A kind whose cases the program knows by another kind's name.
@@ -316,6 +371,14 @@ PROGRAM_KINDS = {"join_orders": "join"}
 
 # A kind whose cases the oracle gives with those of another kind.
 SOURCES = {"expressions": "values"}
+
+
+# A status that no command has yet, so that its cases are left out.
+NOT_BUILT = ("network",)
+
+
+def is_built(v):
+    return v.get("kind") != "report" or v["status"]["name"] not in NOT_BUILT
 
 
 # Kinds of queries: what the oracle cannot make a text of is left out.
@@ -348,9 +411,14 @@ def cases_of(kind, seed, count):
     if kind == "algebra":
         from algebra_vectors import cases
         return cases(int(seed), int(count))
-    made = subprocess.run([sys.executable, "unit_vectors.py", "--kind", SOURCES.get(kind, kind), "--seed", seed, "--count", count],
+    if kind == "words":
+        from words_vectors import cases
+        return cases(int(seed), int(count))
+    more = str(2 * int(count)) if kind == "report" else count
+    made = subprocess.run([sys.executable, "unit_vectors.py", "--kind", SOURCES.get(kind, kind), "--seed", seed, "--count", more],
                           cwd=os.environ["LTQ_ORACLE"], stdout=subprocess.PIPE, check=True)
-    return [KINDS[kind](json.loads(line)) for line in made.stdout.decode("utf-8").splitlines()]
+    vectors = [json.loads(line) for line in made.stdout.decode("utf-8").splitlines()]
+    return [KINDS[kind](v) for v in vectors if is_built(v)][:int(count)]
 
 
 def main():
