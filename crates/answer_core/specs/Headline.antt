@@ -46,9 +46,13 @@ class_of Ok = Ended
 class_of Partial = Ended
 class_of Limit = Ended
 class_of Output = Halted
+class_of Usage = Refused
+class_of (Query at why) = Refused
+class_of (Site at) = Refused
+class_of Input = Refused
+class_of NotBuilt = Refused
 class_of Memory = NoMemory
 class_of Report = Unreported
-class_of status = Refused
 
 pub data Duty : Type 0 where
   Must : Duty
@@ -166,14 +170,19 @@ NoneUnreached r = (u : Text) → Unreached r.entries u → ⊥
 
 -- ---- what was read
 
--- what is refused, where no input is read: the text of the query
+-- what is refused, where no input is read: the text of the query. Each status is named, so that a new one does not come without its cause
 abbrev pub QueryRefusal : Settings → Status → Type 0
 QueryRefusal s Usage = ⊥
 QueryRefusal s (Query at why) = IsRefused s.query at why
 QueryRefusal s (Site at) = ⊥
 QueryRefusal s Input = ⊥
 QueryRefusal s NotBuilt = ⊥
-QueryRefusal s status = Unit {0}
+QueryRefusal s Ok = Unit {0}
+QueryRefusal s Partial = Unit {0}
+QueryRefusal s Limit = Unit {0}
+QueryRefusal s Output = Unit {0}
+QueryRefusal s Memory = Unit {0}
+QueryRefusal s Report = Unit {0}
 
 -- there is a record of a run over the web that is meant, or the query is refused
 pub record WebRead (s : Settings) (IsMeant : ToldWeb → Type 0) (status : Status) (trace : Option Record) : Type 0 where
@@ -186,7 +195,13 @@ Refusal s Usage bytes ended = ⊥
 Refusal s (Query at why) bytes ended = ended × ((site : List Entry) × HasSite bytes (Entries site)) × IsRefused s.query at why
 Refusal s (Site at) bytes ended = HasSite bytes (FirstFault at) × (ended ⊎ (length bytes ≡ site_limit + 1))
 Refusal s NotBuilt bytes ended = ⊥
-Refusal s status bytes ended = Unit {0}
+Refusal s Ok bytes ended = Unit {0}
+Refusal s Partial bytes ended = Unit {0}
+Refusal s Limit bytes ended = Unit {0}
+Refusal s Input bytes ended = Unit {0}
+Refusal s Output bytes ended = Unit {0}
+Refusal s Memory bytes ended = Unit {0}
+Refusal s Report bytes ended = Unit {0}
 
 -- these bytes were read: all where there is a record, which is of a run over their site
 pub record InputRead (s : Settings) (status : Status) (trace : Option Record) (bytes : List ℕ) (ended : Type 0) : Type 0 where
